@@ -1,0 +1,6 @@
+pub mod Words
+pub mod Ranges
+pub mod Refusals
+pub mod Layouts
+pub mod Legs
+pub mod Circuits
