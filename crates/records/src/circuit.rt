@@ -1,5 +1,6 @@
 // A circuit: legs run one after another, and the sum that is due.
-ghost use lib.Dec.{T};
+ghost use mathlib.Core.Bool.{true};
+ghost use mathlib.Core.Path.{_≡_};
 ghost use Rattle.std.specs.Of.Vec.{vec-len};
 ghost use Rattle.records.specs.Ranges.{is-leg-count};
 use crate::number::CircuitNumber;
@@ -27,5 +28,5 @@ pub struct Circuit {
     pub number: CircuitNumber,
     pub due: Payload,
     pub legs: Vec<LegUse>,
-    ghost few: { T (is-leg-count (vec-len legs)) },
+    ghost few: { is-leg-count (vec-len legs) ≡ true },
 }

@@ -1,7 +1,8 @@
 // A leg: one observation between two nodes.
-ghost use mathlib.Core.Bool.{not};
+ghost use mathlib.Core.Bool.{false};
 ghost use Prim.Native.Nat.{_^_, _<_};
-ghost use lib.Dec.{T, eqb};
+ghost use lib.Dec.{eqb};
+ghost use mathlib.Core.Path.{_≡_};
 use crate::number::LegNumber;
 use crate::number::Node;
 use crate::word::Payload;
@@ -38,7 +39,7 @@ pub struct Leg {
     pub readings: Readings,
     // absent where the leg was run once
     pub back: Option<Payload>,
-    ghost apart: { T (not (eqb (start .value) (end .value))) },
+    ghost apart: { eqb (start .value) (end .value) ≡ false },
     ghost length_fits: { length .metres < 2 ^ 28 },
     ghost b_fits: { readings .b < 2 ^ 10 },
     ghost c_fits: { readings .c < 2 ^ 10 },

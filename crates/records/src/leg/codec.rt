@@ -1,11 +1,65 @@
 // A leg read from its words, and written as words.
 ghost use mathlib.Core.Path.{_≡_};
-ghost use Rattle.std.specs.Options.{mapped};
-ghost use Rattle.records.specs.Legs.{leg-record, running};
+ghost use Rattle.std.specs.Of.Vec.{vec-items};
+ghost use Rattle.std.specs.Vec.{made};
+ghost use Rattle.records.specs.Legs.{leg-record, leg-words, leg-decoded, running, Legs-read-back};
+ghost use Rattle.records.specs.Refusals.{seen};
 use super::Leg;
+use super::Length;
+use super::Readings;
 use super::Running;
+use crate::layout;
+use crate::number::LegNumber;
+use crate::number::Node;
+use crate::refusal::Reason;
+use crate::refusal::Refusal;
+use crate::word::Payload;
+
+const OUT_OF_RANGE: Refusal = Refusal {
+    reason: Reason::Range,
+    place: 0,
+};
 
 impl Leg {
+    pub fn decode(words: &[u32]) -> Result<Leg, Refusal>
+        ensures { λ r. ⌜ seen leg-record r ≡ leg-decoded (now (words .entry)) ⌝ }
+    {
+        layout::check(&layout::LEG, words)?;
+        let [head, value, length, readings, rest @ ..] = words else {
+            unreachable()
+        };
+        let back = match rest {
+            [] => None,
+            [back] => Some(Payload::of_word(*back)),
+            _ => unreachable(),
+        };
+        let head = Payload::of_word(*head);
+        let Some(number) = LegNumber::new(head.high()) else {
+            return Err(OUT_OF_RANGE);
+        };
+        let Some(start) = Node::new(head.middle()) else {
+            return Err(OUT_OF_RANGE);
+        };
+        let Some(end) = Node::new(head.low()) else {
+            return Err(OUT_OF_RANGE);
+        };
+        if start.value == end.value {
+            return Err(OUT_OF_RANGE);
+        }
+        let metres = Payload::of_word(*length).bits;
+        let readings = Payload::of_word(*readings);
+        let (a, b, c) = (readings.high(), readings.middle(), readings.low());
+        Ok(Leg {
+            number,
+            start,
+            end,
+            value: Payload::of_word(*value),
+            length: Length { metres },
+            readings: Readings { a, b, c },
+            back,
+        })
+    }
+
     // A leg with a back value was run twice.
     pub fn running(&self) -> Running
         ensures { λ r. ⌜ r ≡ running (leg-record (now (self .entry)) .back) ⌝ }

@@ -1,6 +1,6 @@
 // A word taken apart and put together, and a list of words held against a layout.
 ghost use mathlib.Core.Path.{_≡_};
-ghost use Rattle.records.specs.Words.{kind, payload, word, signed, kind-number};
+ghost use Rattle.records.specs.Words.{kind, payload, word, bits, signed, kind-number};
 use super::Kind;
 use super::Payload;
 
@@ -21,6 +21,13 @@ impl Kind {
     }
 }
 
+// The kind of a word, as a number.
+pub fn kind_of(w: u32) -> u32
+    ensures { λ r. ⌜ r ≡ kind w ⌝ }
+{
+    w >> 28
+}
+
 impl Payload {
     // The payload of a word.
     pub fn of_word(w: u32) -> Payload
@@ -36,6 +43,27 @@ impl Payload {
         ensures { λ r. ⌜ r ≡ word kind (self .bits) ⌝ }
     {
         kind.number() * (1 << 28) + self.bits
+    }
+
+    // Bits 27 to 20.
+    pub fn high(self) -> u8
+        ensures { λ r. ⌜ r ≡ bits 20 8 (self .bits) ⌝ }
+    {
+        ((self.bits >> 20) % 256) as u8
+    }
+
+    // Bits 19 to 10.
+    pub fn middle(self) -> u16
+        ensures { λ r. ⌜ r ≡ bits 10 10 (self .bits) ⌝ }
+    {
+        ((self.bits >> 10) % 1024) as u16
+    }
+
+    // Bits 9 to 0.
+    pub fn low(self) -> u16
+        ensures { λ r. ⌜ r ≡ bits 0 10 (self .bits) ⌝ }
+    {
+        (self.bits % 1024) as u16
     }
 
     // The payload as two's complement on 28 bits.
