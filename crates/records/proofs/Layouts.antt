@@ -1,15 +1,16 @@
 -- One step along a layout. Assumes nothing.
 use mathlib.Core.Path.{_≡_, refl, sym, ap, ap₂, _∙_}
-use mathlib.Core.Bool.{Bool, true, cond}
-use mathlib.Core.List.{List}
+use mathlib.Core.Bool.{Bool, true, false, cond}
+use mathlib.Core.List.{List, [], _∷_}
 use Prim.Native.Nat.{ℕ, suc, _+_, _≤_, _<_}
 use native.Mathlib.Numerals.{add-one}
+use native.Mathlib.Omega.{arith}
 use lib.Dec.{eqb}
 use lib.ListN.{length, getD, drop}
 use Rattle.std.specs.declared.option.Option.{Option}
 use Rattle.std.specs.declared.option.Option.the-variants.{Some, None}
 use Rattle.std.proofs.shelf.Lists.{drop-more, drop-all}
-use Rattle.std.proofs.shelf.Tests.{eq-eqb, ne-eqb}
+use Rattle.std.proofs.shelf.Tests.{eq-eqb, ne-eqb, eqb-true}
 use Rattle.records.specs.declared.word.Slot.{Slot}
 use Rattle.std.specs.declared.result.Result.the-variants.{Ok}
 use Rattle.records.specs.declared.refusal.Reason.the-variants.{Layout}
@@ -44,3 +45,26 @@ module _ (slots : List Slot) (ws : List ℕ) (i : ℕ) where
 pub laid : (m : Option ℕ) (u : Unit {0}) → Ok u ≡ unless (refusal Layout m) tt → m ≡ None
 laid None u e = refl
 laid (Some i) u e = cc
+
+-- a word of the slot's kind, in front
+pub step : (i : ℕ) (s : Slot) (slots : List Slot) (w : ℕ) (ws : List ℕ) → kind w ≡ kind-number (s .kind) → misplaced i (s ∷ slots) (w ∷ ws) ≡ misplaced (suc i) slots ws
+step i s slots w ws e = ap (λ b. cond b (misplaced (suc i) slots ws) (Some i)) (eq-eqb _ _ e)
+
+pub step-back : (i : ℕ) (s : Slot) (slots : List Slot) (w : ℕ) (ws : List ℕ) → misplaced i (s ∷ slots) (w ∷ ws) ≡ None → (kind w ≡ kind-number (s .kind)) × (misplaced (suc i) slots ws ≡ None)
+step-back i s slots w ws e = go (eqb (kind w) (kind-number (s .kind))) refl e
+  where
+    go : (b : Bool) → eqb (kind w) (kind-number (s .kind)) ≡ b → cond b (misplaced (suc i) slots ws) (Some i) ≡ None → (kind w ≡ kind-number (s .kind)) × (misplaced (suc i) slots ws ≡ None)
+    go true p h = (eqb-true _ _ p, h)
+    go false p h = let z : _≡_ {A = ℕ} 0 1 = cc in absurd (omega arith)
+
+-- the word that a required slot has
+pub record Next (i : ℕ) (s : Slot) (slots : List Slot) (ws : List ℕ) : Type 0 where
+  pub here : ℕ
+  pub rest : List ℕ
+  pub is : ws ≡ here ∷ rest
+  pub kind-is : kind here ≡ kind-number (s .kind)
+  pub laid-rest : misplaced (suc i) slots rest ≡ None
+
+pub next : (i : ℕ) (s : Slot) (slots : List Slot) (ws : List ℕ) → s .required ≡ true → misplaced i (s ∷ slots) ws ≡ None → Next i s slots ws
+next i s slots [] r e = let z : _≡_ {A = ℕ} 0 1 = cc (ap (λ b. cond b (Some i) None) r) in absurd (omega arith)
+next i s slots (w ∷ ws) r e = let k = step-back i s slots w ws e in record { here = w; rest = ws; is = refl; kind-is = k .0; laid-rest = k .1 }

@@ -1,3 +1,5 @@
+pub mod Words
 pub mod Layouts
 pub mod Ranges
 pub mod Legs
+pub mod LegLaws

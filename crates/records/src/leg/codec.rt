@@ -13,7 +13,10 @@ use crate::number::LegNumber;
 use crate::number::Node;
 use crate::refusal::Reason;
 use crate::refusal::Refusal;
+use crate::word::Kind;
 use crate::word::Payload;
+use std::alloc::AllocError;
+use std::alloc::Global;
 
 const OUT_OF_RANGE: Refusal = Refusal {
     reason: Reason::Range,
@@ -58,6 +61,25 @@ impl Leg {
             readings: Readings { a, b, c },
             back,
         })
+    }
+
+    pub fn encode(&self, heap: Global) -> Result<Vec<u32>, AllocError>
+        ensures words { λ r. ⌜ made r (λ v. vec-items v ≡ leg-words (leg-record (now (self .entry)))) ⌝ }
+        ensures law { λ _. ⌜ Legs-read-back ⌝ }
+    {
+        let Readings { a, b, c } = self.readings;
+        let head = Payload::packed(self.number.value, self.start.value, self.end.value).under(
+            Kind::Leg,
+        );
+        let value = self.value.under(Kind::Value);
+        let length = Payload {
+            bits: self.length.metres,
+        }.under(Kind::Length);
+        let readings = Payload::packed(a, b, c).under(Kind::Readings);
+        match self.back {
+            None => [head, value, length, readings].to_vec(heap),
+            Some(back) => [head, value, length, readings, back.under(Kind::Back)].to_vec(heap),
+        }
     }
 
     // A leg with a back value was run twice.

@@ -1,5 +1,6 @@
 // A word taken apart and put together, and a list of words held against a layout.
 ghost use mathlib.Core.Path.{_≡_};
+ghost use Prim.Native.Nat.{_+_, _*_, _^_, _<_};
 ghost use Rattle.records.specs.Words.{kind, payload, word, bits, signed, kind-number};
 use super::Kind;
 use super::Payload;
@@ -35,6 +36,17 @@ impl Payload {
     {
         Payload {
             bits: w % (1 << 28),
+        }
+    }
+
+    // Three fields: bits 27 to 20, 19 to 10 and 9 to 0.
+    pub(crate) fn packed(high: u8, middle: u16, low: u16) -> Payload
+        requires middle_fits { ⌜ middle < 2 ^ 10 ⌝ }
+        requires low_fits { ⌜ low < 2 ^ 10 ⌝ }
+        ensures { λ r. ⌜ r .bits ≡ high * 2 ^ 20 + middle * 2 ^ 10 + low ⌝ }
+    {
+        Payload {
+            bits: ((high as u32) << 20) + ((middle as u32) << 10) + low as u32,
         }
     }
 
