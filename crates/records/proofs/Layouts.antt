@@ -12,7 +12,10 @@ use Rattle.std.specs.declared.option.Option.the-variants.{Some, None}
 use Rattle.std.proofs.shelf.Lists.{drop-more, drop-all}
 use Rattle.std.proofs.shelf.Tests.{eq-eqb, ne-eqb, eqb-true}
 use Rattle.records.specs.declared.word.Slot.{Slot}
-use Rattle.std.specs.declared.result.Result.the-variants.{Ok}
+use Rattle.std.specs.declared.result.Result.{Result}
+use Rattle.std.specs.declared.result.Result.the-variants.{Ok, Err}
+use Rattle.records.specs.declared.refusal.Reason.{Reason}
+use Rattle.records.specs.declared.refusal.Refusal.{Refusal}
 use Rattle.records.specs.declared.refusal.Reason.the-variants.{Layout}
 use Rattle.records.specs.Refusals.{refusal, unless}
 use Rattle.records.specs.Layouts.{misplaced}
@@ -41,10 +44,13 @@ module _ (slots : List Slot) (ws : List ℕ) (i : ℕ) where
   pub over : length slots ≤ i → length ws ≤ i → None ≡ misplaced i (drop i slots) (drop i ws)
   over l h = sym (ap₂ (misplaced i) (drop-all i slots l) (drop-all i ws h))
 
--- a layout that was not refused
+-- what was not refused
+pub passes : (reason : Reason) (m : Option ℕ) (u : Unit {0}) → Ok u ≡ unless (refusal reason m) tt → m ≡ None
+passes reason None u e = refl
+passes reason (Some i) u e = cc
+
 pub laid : (m : Option ℕ) (u : Unit {0}) → Ok u ≡ unless (refusal Layout m) tt → m ≡ None
-laid None u e = refl
-laid (Some i) u e = cc
+laid = passes Layout
 
 -- a word of the slot's kind, in front
 pub step : (i : ℕ) (s : Slot) (slots : List Slot) (w : ℕ) (ws : List ℕ) → kind w ≡ kind-number (s .kind) → misplaced i (s ∷ slots) (w ∷ ws) ≡ misplaced (suc i) slots ws
@@ -68,3 +74,15 @@ pub record Next (i : ℕ) (s : Slot) (slots : List Slot) (ws : List ℕ) : Type 
 pub next : (i : ℕ) (s : Slot) (slots : List Slot) (ws : List ℕ) → s .required ≡ true → misplaced i (s ∷ slots) ws ≡ None → Next i s slots ws
 next i s slots [] r e = let z : _≡_ {A = ℕ} 0 1 = cc (ap (λ b. cond b (Some i) None) r) in absurd (omega arith)
 next i s slots (w ∷ ws) r e = let k = step-back i s slots w ws e in record { here = w; rest = ws; is = refl; kind-is = k .0; laid-rest = k .1 }
+
+-- words that are laid out right are no more than the layout has
+pub no-more : (i : ℕ) (slots : List Slot) (ws : List ℕ) → misplaced i slots ws ≡ None → length ws ≤ length slots
+no-more i [] [] e = omega arith
+no-more i [] (w ∷ ws) e = let z : _≡_ {A = ℕ} 0 1 = cc in absurd (omega arith)
+no-more i (s ∷ slots) [] e = omega arith
+no-more i (s ∷ slots) (w ∷ ws) e = let h = no-more (suc i) slots ws (step-back i s slots w ws e .1) in omega arith
+
+-- the refusal of a reason, taken back to its place
+pub refused-at : (reason : Reason) (m : Option ℕ) (e : Refusal) → _≡_ {A = Result (Unit {0}) Refusal} (Err e) (unless (refusal reason m) tt) → (i : ℕ) × (m ≡ Some i) × (e ≡ record { reason = reason; place = i })
+refused-at reason None e h = let z : _≡_ {A = ℕ} 0 1 = cc in absurd (omega arith)
+refused-at reason (Some i) e h = (i, refl, cc)

@@ -22,6 +22,7 @@ use Rattle.records.specs.Ranges.{is-leg-number, is-node, between}
 use Rattle.records.specs.Refusals.{refusal, first, unless}
 use Rattle.records.specs.Words.{kind, kind-number, payload, word, bits}
 use Rattle.records.proofs.Layouts.{step, step-back, next}
+use Rattle.records.proofs.Ranges.{upto}
 use Rattle.records.proofs.Legs.{accepted, same-leg}
 use Rattle.records.proofs.Words.{kind-word, payload-word, word-is, payload-fits, packed, packed-fits, high-packed, middle-packed, low-packed, packed-is, high-fits, ten-fits}
 
@@ -38,9 +39,6 @@ record Fitting (l : LegRecord) : Type 0 where
   c : l .readings .c < 2 ^ 10
   back : fits-back (l .back) ≡ true
 
-below : (low high n : ℕ) → between low high n ≡ true → n ≤ high
-below low high n e = leb-true n high (and-parts _ _ e .1)
-
 fitting : (l : LegRecord) → leg-fits l ≡ true → Fitting l
 fitting l e =
     let p0 = and-parts (leg-ranged l) _ e in
@@ -52,9 +50,9 @@ fitting l e =
     let r0 = and-parts (is-leg-number (l .number)) _ (p0 .0) in
     let r1 = and-parts (is-node (l .start)) _ (r0 .1) in
     let r2 = and-parts (is-node (l .end)) _ (r1 .1) in
-    let n = below 1 128 (l .number) (r0 .0) in
-    let s = below 1 1023 (l .start) (r1 .0) in
-    let t = below 1 1023 (l .end) (r2 .0) in
+    let n = upto 1 128 (l .number) (r0 .0) in
+    let s = upto 1 1023 (l .start) (r1 .0) in
+    let t = upto 1 1023 (l .end) (r2 .0) in
     record {
       ranged = p0 .0;
       number = omega arith;

@@ -3,3 +3,5 @@ pub mod Layouts
 pub mod Ranges
 pub mod Legs
 pub mod LegLaws
+pub mod Circuits
+pub mod CircuitLaws
