@@ -83,7 +83,7 @@ uses-read (u ∷ us) e = let p = and-parts (is-leg-number (u .leg)) (uses-fit us
 uses-laid : (i n : ℕ) (us : List UseRecord) → uses-fit us ≡ true → length us ≤ n → misplaced i (replicate n (may kinds.Use)) (map use-word us) ≡ None
 uses-laid i zero [] e l = refl
 uses-laid i zero (u ∷ us) e l = absurd (omega arith)
-uses-laid i (suc n) [] e l = refl
+uses-laid i (suc n) [] e l = uses-laid (suc i) n [] e (omega arith)
 uses-laid i (suc n) (u ∷ us) e l =
     let p = and-parts (is-leg-number (u .leg)) (uses-fit us) e in
     step i (may kinds.Use) (replicate n (may kinds.Use)) (use-word u) (map use-word us) (one-kind (u .sense) (u .leg) (p .0)) ∙ uses-laid (suc i) n us (p .1) (omega arith)

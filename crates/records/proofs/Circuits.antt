@@ -92,6 +92,9 @@ module _ (ws : List ℕ) where
         let leg = next 2 (must kinds.Use) (drop 3 circuit-layout) (due .rest) refl (due .laid-rest) in
         omega (arith, ap length (head .is), ap length (due .is), ap length (leg .is))
 
+    pub few-uses : length (take (length ws - 2) (drop 2 ws)) ≤ 16
+    few-uses = let high = no-more 0 circuit-layout ws laid in let is = ap length (take-rest ws 2) ∙ length-drop 2 ws in omega arith
+
     pub counted : is-leg-count (length (drop 2 ws)) ≡ true
     counted =
         let low = three-up in

@@ -1,5 +1,5 @@
 -- One step along a layout. Assumes nothing.
-use mathlib.Core.Path.{_≡_, refl, sym, ap, ap₂, _∙_}
+use mathlib.Core.Path.{_≡_, refl, sym, ap, ap₂, subst, _∙_}
 use mathlib.Core.Bool.{Bool, true, false, cond}
 use mathlib.Core.List.{List, [], _∷_}
 use Prim.Native.Nat.{ℕ, suc, _+_, _≤_, _<_}
@@ -10,7 +10,7 @@ use lib.ListN.{length, getD, drop}
 use Rattle.std.specs.declared.option.Option.{Option}
 use Rattle.std.specs.declared.option.Option.the-variants.{Some, None}
 use Rattle.std.proofs.shelf.Lists.{drop-more, drop-all}
-use Rattle.std.proofs.shelf.Tests.{eq-eqb, ne-eqb, eqb-true}
+use Rattle.std.proofs.shelf.Tests.{eq-eqb, ne-eqb, eqb-true, eqb-false, both-ways}
 use Rattle.records.specs.declared.word.Slot.{Slot}
 use Rattle.std.specs.declared.result.Result.{Result}
 use Rattle.std.specs.declared.result.Result.the-variants.{Ok, Err}
@@ -18,12 +18,26 @@ use Rattle.records.specs.declared.refusal.Reason.{Reason}
 use Rattle.records.specs.declared.refusal.Refusal.{Refusal}
 use Rattle.records.specs.declared.refusal.Reason.the-variants.{Layout}
 use Rattle.records.specs.Refusals.{refusal, unless}
-use Rattle.records.specs.Layouts.{misplaced}
+use Rattle.records.specs.Layouts.{misplaced, Broken}
+use Rattle.records.specs.Lowest.{Lowest}
+use Rattle.records.proofs.Lowest.{From, passed, stopped, from-zero}
 use Rattle.records.specs.Words.{kind, kind-number}
 
 module _ (slots : List Slot) (ws : List ℕ) (i : ℕ) where
-  pub absent : (d : Slot) (b : Bool) → i < length slots → length ws ≤ i → getD slots i d .required ≡ b → cond b (Some i) None ≡ misplaced i (drop i slots) (drop i ws)
-  absent d b l h e = sym (ap₂ (misplaced i) (drop-more slots i d l) (drop-all i ws h) ∙ ap (λ b. cond b (Some i) None) e)
+  absent : (d : Slot) → i < length slots → length ws ≤ i →
+      misplaced i (drop i slots) (drop i ws) ≡ cond (getD slots i d .required) (Some i) (misplaced (suc i) (drop (i + 1) slots) (drop (i + 1) ws))
+  absent d l h =
+      ap₂ (misplaced i) (drop-more slots i d l) (drop-all i ws h)
+      ∙ sym (ap (λ rest. cond (getD slots i d .required) (Some i) (misplaced (suc i) (drop (i + 1) slots) rest)) (drop-all (i + 1) ws (omega arith)))
+
+  pub needed : (d : Slot) → i < length slots → length ws ≤ i → getD slots i d .required ≡ true → Some i ≡ misplaced i (drop i slots) (drop i ws)
+  needed d l h e = sym (absent d l h ∙ ap (λ b. cond b (Some i) (misplaced (suc i) (drop (i + 1) slots) (drop (i + 1) ws))) e)
+
+  pub spared : (d : Slot) → i < length slots → length ws ≤ i → getD slots i d .required ≡ false →
+      misplaced (i + 1) (drop (i + 1) slots) (drop (i + 1) ws) ≡ misplaced i (drop i slots) (drop i ws)
+  spared d l h e =
+      ap (λ j. misplaced j (drop (i + 1) slots) (drop (i + 1) ws)) (add-one i)
+      ∙ sym (absent d l h ∙ ap (λ b. cond b (Some i) (misplaced (suc i) (drop (i + 1) slots) (drop (i + 1) ws))) e)
 
   present : (d : Slot) (e : ℕ) → i < length slots → i < length ws →
       misplaced i (drop i slots) (drop i ws) ≡ cond (eqb (kind (getD ws i e)) (kind-number (getD slots i d .kind))) (misplaced (suc i) (drop (i + 1) slots) (drop (i + 1) ws)) (Some i)
@@ -72,7 +86,7 @@ pub record Next (i : ℕ) (s : Slot) (slots : List Slot) (ws : List ℕ) : Type 
   pub laid-rest : misplaced (suc i) slots rest ≡ None
 
 pub next : (i : ℕ) (s : Slot) (slots : List Slot) (ws : List ℕ) → s .required ≡ true → misplaced i (s ∷ slots) ws ≡ None → Next i s slots ws
-next i s slots [] r e = let z : _≡_ {A = ℕ} 0 1 = cc (ap (λ b. cond b (Some i) None) r) in absurd (omega arith)
+next i s slots [] r e = let z : _≡_ {A = ℕ} 0 1 = cc in absurd (omega arith)
 next i s slots (w ∷ ws) r e = let k = step-back i s slots w ws e in record { here = w; rest = ws; is = refl; kind-is = k .0; laid-rest = k .1 }
 
 -- words that are laid out right are no more than the layout has
@@ -86,3 +100,22 @@ no-more i (s ∷ slots) (w ∷ ws) e = let h = no-more (suc i) slots ws (step-ba
 pub refused-at : (reason : Reason) (m : Option ℕ) (e : Refusal) → _≡_ {A = Result (Unit {0}) Refusal} (Err e) (unless (refusal reason m) tt) → (i : ℕ) × (m ≡ Some i) × (e ≡ record { reason = reason; place = i })
 refused-at reason None e h = let z : _≡_ {A = ℕ} 0 1 = cc in absurd (omega arith)
 refused-at reason (Some i) e h = (i, refl, cc)
+
+-- ---- the index is the least
+lowest-from : (i : ℕ) (slots : List Slot) (ws : List ℕ) → Lowest (From i (Broken slots ws)) (misplaced i slots ws)
+lowest-from i [] [] = λ n h. h .2
+lowest-from i [] (w ∷ ws) = stopped i (Broken [] (w ∷ ws)) tt
+lowest-from i (s ∷ slots) [] = go (s .required) refl (lowest-from (suc i) slots [])
+  where
+    go : (b : Bool) → s .required ≡ b → Lowest (From (suc i) (Broken slots [])) (misplaced (suc i) slots []) → Lowest (From i (Broken (s ∷ slots) [])) (cond b (Some i) (misplaced (suc i) slots []))
+    go true e rest = stopped i (Broken (s ∷ slots) []) e
+    go false e rest = passed i (Broken (s ∷ slots) []) _ (both-ways (s .required) e) rest
+lowest-from i (s ∷ slots) (w ∷ ws) = go (eqb (kind w) (kind-number (s .kind))) refl (lowest-from (suc i) slots ws)
+  where
+    go : (b : Bool) → eqb (kind w) (kind-number (s .kind)) ≡ b → Lowest (From (suc i) (Broken slots ws)) (misplaced (suc i) slots ws) →
+        Lowest (From i (Broken (s ∷ slots) (w ∷ ws))) (cond b (misplaced (suc i) slots ws) (Some i))
+    go true e rest = passed i (Broken (s ∷ slots) (w ∷ ws)) _ (λ h. h (eqb-true _ _ e)) rest
+    go false e rest = stopped i (Broken (s ∷ slots) (w ∷ ws)) (eqb-false _ _ e)
+
+pub lowest-misplaced : (slots : List Slot) (ws : List ℕ) (r : Option ℕ) → r ≡ misplaced 0 slots ws → Lowest (Broken slots ws) r
+lowest-misplaced slots ws r e = subst (Lowest (Broken slots ws)) (sym e) (from-zero (Broken slots ws) _ (lowest-from 0 slots ws))

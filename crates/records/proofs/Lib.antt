@@ -1,4 +1,5 @@
 pub mod Words
+pub mod Lowest
 pub mod Layouts
 pub mod Ranges
 pub mod Legs

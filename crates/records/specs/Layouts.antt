@@ -1,4 +1,5 @@
 -- Layouts: which kind of word stands at each index of a record.
+use mathlib.Core.Path.{_≡_}
 use mathlib.Core.Bool.{true, false, cond}
 use mathlib.Core.List.{List, [], _∷_, _++_}
 use Prim.Native.Nat.{ℕ, suc}
@@ -6,6 +7,7 @@ use lib.Dec.{eqb}
 use lib.ListN.{replicate}
 use Rattle.std.specs.declared.option.Option.{Option}
 use Rattle.std.specs.declared.option.Option.the-variants.{Some, None}
+use Rattle.std.specs.shelf.Maps.{nth}
 use Rattle.records.specs.declared.word.Kind.{Kind}
 use Rattle.records.specs.declared.word.Kind.the-variants as kinds
 use Rattle.records.specs.declared.word.Slot.{Slot}
@@ -27,5 +29,16 @@ circuit-layout = must kinds.Circuit ∷ must kinds.Due ∷ must kinds.Use ∷ re
 abbrev pub misplaced : ℕ → List Slot → List ℕ → Option ℕ
 misplaced i [] [] = None
 misplaced i [] (w ∷ ws) = Some i
-misplaced i (s ∷ slots) [] = cond (s .required) (Some i) None
+misplaced i (s ∷ slots) [] = cond (s .required) (Some i) (misplaced (suc i) slots [])
 misplaced i (s ∷ slots) (w ∷ ws) = cond (eqb (kind w) (kind-number (s .kind))) (misplaced (suc i) slots ws) (Some i)
+
+-- what a layout and a list of words have at an index, where they have something, breaks the layout
+abbrev pub Breaks : Option Slot → Option ℕ → Type 0
+Breaks None None = ⊥
+Breaks None (Some w) = Unit {0}
+Breaks (Some s) None = s .required ≡ true
+Breaks (Some s) (Some w) = kind w ≡ kind-number (s .kind) → ⊥
+
+-- the layout is broken at an index: a word there is surplus, absent or of another kind
+abbrev pub Broken : List Slot → List ℕ → ℕ → Type 0
+Broken slots ws i = Breaks (nth slots i) (nth ws i)

@@ -3,7 +3,8 @@ ghost use mathlib.Core.Path.{_≡_};
 ghost use Prim.Native.Nat.{_≤_};
 ghost use lib.ListN.{length};
 ghost use Rattle.std.specs.Options.{Cases as BySome};
-ghost use Rattle.records.specs.Layouts.{misplaced, leg-layout, circuit-layout};
+ghost use Rattle.records.specs.Layouts.{misplaced, Broken};
+ghost use Rattle.records.specs.Lowest.{Lowest};
 ghost use Rattle.records.specs.Refusals.{refusal, unless};
 ghost use Rattle.records.specs.declared.refusal.Reason.the-variants.{Layout};
 use crate::refusal::Reason;
@@ -71,15 +72,17 @@ pub(crate) const CIRCUIT: [Slot; 18] = [
 ];
 
 // The least index at which a word is absent, surplus or of another kind than the layout's.
-fn misplaced(slots: &[Slot], words: &[u32]) -> Option<usize>
-    ensures least { λ r. ⌜ r ≡ misplaced 0 (now (slots .entry)) (now (words .entry)) ⌝ }
+pub fn misplaced(slots: &[Slot], words: &[u32]) -> Option<usize>
+    ensures value { λ r. ⌜ r ≡ misplaced 0 (now (slots .entry)) (now (words .entry)) ⌝ }
+    ensures lowest { λ r. ⌜ Lowest (Broken (now (slots .entry)) (now (words .entry))) r ⌝ }
     ensures bound { λ r. ⌜ BySome r (Unit {0}) (λ i. i ≤ length (now (slots .entry))) ⌝ }
 {
     for (i, slot) in slots.iter().enumerate() {
         if i >= words.len() {
-            return if slot.required { Some(i) } else { None };
-        }
-        if kind_of(words[i]) != slot.kind.number() {
+            if slot.required {
+                return Some(i);
+            }
+        } else if kind_of(words[i]) != slot.kind.number() {
             return Some(i);
         }
     }

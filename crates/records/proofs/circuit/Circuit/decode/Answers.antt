@@ -13,7 +13,7 @@ use Rattle.records.specs.Circuits.{head-ranged, use-unranged}
 use Rattle.records.specs.Refusals.{refusal, unless}
 use Rattle.records.proofs.circuit.Circuit.decode.Needs as need
 use Rattle.records.proofs.Layouts.{laid, passes}
-use Rattle.records.proofs.Circuits.{layout-refused, head-refused, uses-refused, circuit-taken, legs-counted, circuit-same, head-read, head-is}
+use Rattle.records.proofs.Circuits.{layout-refused, head-refused, uses-refused, circuit-taken, legs-counted, few-uses, circuit-same, head-read, head-is}
 
 pub returns-in-Break-check : need.returns-in-Break-check
 returns-in-Break-check c =
@@ -24,6 +24,9 @@ pub returns-in-rest-head-number : need.returns-in-rest-head-number
 returns-in-rest-head-number c =
     let none : head-ranged (getD (c .args .words .now) 0 0) ≡ false = sym (head-read None _ _ (c .in-rest-head-number .ensures tt)) in
     head-refused (c .args .words .now) (laid _ _ (c .in-Continue-check .ensures tt)) none ∙ ap Err (sym (c .out-of-range .ensures))
+
+pub check-uses-requires : need.check-uses-requires
+check-uses-requires c κs = few-uses (c .args .words .now) (laid _ _ (c .in-Continue-check .ensures tt))
 
 pub returns-in-Break-check-uses : need.returns-in-Break-check-uses
 returns-in-Break-check-uses c =
