@@ -10,20 +10,23 @@ use Rattle.std.specs.declared.option.Option.{Option}
 use Rattle.std.specs.declared.option.Option.the-variants.{Some, None}
 use Rattle.std.specs.declared.result.Result.{Result}
 use Rattle.std.specs.declared.result.Result.the-variants.{Ok, Err}
-use Rattle.std.specs.Options.{isSome, mapped}
+use Rattle.std.specs.Options.{isSome, mapped, Cases}
+use Rattle.std.specs.shelf.Maps.{nth}
 use Rattle.std.proofs.shelf.Lists.{at-drop-more, at-drop-all, map-push, map-more, length-drop, length-map, take-rest}
-use Rattle.std.proofs.shelf.Tests.{and-from, le-leb}
+use Rattle.std.proofs.shelf.Tests.{and-from, le-leb, both-ways}
 use Rattle.records.specs.declared.circuit.LegUse.{LegUse}
 use Rattle.records.specs.declared.number.CircuitNumber.{CircuitNumber}
 use Rattle.records.specs.declared.refusal.Reason.the-variants.{Layout, Range}
 use Rattle.records.specs.declared.refusal.Refusal.{Refusal}
 use Rattle.records.specs.declared.word.Kind.the-variants as kinds
 use Rattle.records.specs.Layouts.{misplaced, circuit-layout, must}
+use Rattle.records.specs.Lowest.{Lowest}
 use Rattle.records.specs.Ranges.{is-leg-count}
 use Rattle.records.specs.Refusals.{refusal, first, unless}
 use Rattle.records.specs.Words.{bits, payload}
+use Rattle.records.proofs.Lowest.{From, passed, stopped, from-zero}
 use Rattle.records.proofs.Layouts.{next, no-more, refused-at}
-use Rattle.records.specs.Circuits.{CircuitRecord, circuit-read, circuit-decoded, circuit-unranged, head-ranged, use-word, UseRecord, use-record, use-read, use-ranged, use-unranged}
+use Rattle.records.specs.Circuits.{CircuitRecord, circuit-read, circuit-decoded, circuit-unranged, head-ranged, use-word, Unranged, Least-unranged, UseRecord, use-record, use-read, use-ranged, use-unranged}
 
 -- a use is read just where it is in range
 pub read-some : (o : Option LegUse) (b : Bool) (u : UseRecord) → mapped use-record o ≡ cond b (Some u) None → isSome o ≡ b
@@ -128,3 +131,24 @@ legs-counted ws n us laid len read =
 
 pub circuit-same : (ws : List ℕ) (c : CircuitRecord) → c .number ≡ bits 20 8 (payload (getD ws 0 0)) → c .due ≡ payload (getD ws 1 0) → c .legs ≡ map use-read (take (length ws - 2) (drop 2 ws)) → circuit-read ws ≡ c
 circuit-same ws c n d u = let legs = u ∙ ap (map use-read) (take-rest ws 2) in sym (λ i. record { number = n i; due = d i; legs = legs i })
+
+-- ---- the index is the least
+abbrev Bad : List ℕ → ℕ → Type 0
+Bad ws i = Cases (nth ws i) ⊥ (λ w. use-ranged w ≡ false)
+
+lowest-use : (j : ℕ) (ws : List ℕ) → Lowest (From j (Bad ws)) (use-unranged j ws)
+lowest-use j [] = λ n h. h .2
+lowest-use j (w ∷ ws) = go (use-ranged w) refl (lowest-use (suc j) ws)
+  where
+    go : (b : Bool) → use-ranged w ≡ b → Lowest (From (suc j) (Bad ws)) (use-unranged (suc j) ws) → Lowest (From j (Bad (w ∷ ws))) (cond b (use-unranged (suc j) ws) (Some j))
+    go true e rest = passed j (Bad (w ∷ ws)) _ (λ h. both-ways (use-ranged w) h e) rest
+    go false e rest = stopped j (Bad (w ∷ ws)) e
+
+pub least-unranged : Least-unranged
+least-unranged ws = go (head-ranged (getD ws 0 0)) refl
+  where
+    go : (b : Bool) → head-ranged (getD ws 0 0) ≡ b → Lowest (Unranged ws) (cond b (use-unranged 2 (drop 2 ws)) (Some 0))
+    go true e =
+        let r = use-unranged 2 (drop 2 ws) in
+        from-zero (Unranged ws) r (passed 0 (Unranged ws) r (λ h. both-ways (head-ranged (getD ws 0 0)) h e) (passed 1 (λ k. Unranged ws (suc k)) r (λ h. h) (lowest-use 2 (drop 2 ws))))
+    go false e = from-zero (Unranged ws) (Some 0) (stopped 0 (Unranged ws) e)

@@ -2,7 +2,7 @@
 use mathlib.Core.Path.{_≡_}
 use mathlib.Core.Bool.{Bool, true, false, cond, _&&_}
 use mathlib.Core.List.{List, [], _∷_, map}
-use Prim.Native.Nat.{ℕ, suc, _+_, _*_, _^_}
+use Prim.Native.Nat.{ℕ, zero, suc, _+_, _*_, _^_}
 use lib.Dec.{eqb, ltb}
 use lib.ListN.{length, getD, drop}
 use Rattle.std.specs.declared.option.Option.{Option}
@@ -10,6 +10,8 @@ use Rattle.std.specs.declared.option.Option.the-variants.{Some, None}
 use Rattle.std.specs.declared.result.Result.{Result}
 use Rattle.std.specs.declared.result.Result.the-variants.{Ok, Err}
 use Rattle.std.specs.Of.Vec.{vec-items}
+use Rattle.std.specs.Options.{Cases}
+use Rattle.std.specs.shelf.Maps.{nth}
 use Rattle.records.specs.declared.circuit.Circuit.{Circuit}
 use Rattle.records.specs.declared.circuit.LegUse.{LegUse}
 use Rattle.records.specs.declared.circuit.Sense.{Sense}
@@ -18,6 +20,7 @@ use Rattle.records.specs.declared.refusal.Reason.the-variants.{Layout, Range}
 use Rattle.records.specs.declared.refusal.Refusal.{Refusal}
 use Rattle.records.specs.declared.word.Kind.the-variants as kinds
 use Rattle.records.specs.Layouts.{misplaced, circuit-layout}
+use Rattle.records.specs.Lowest.{Lowest}
 use Rattle.records.specs.Ranges.{is-leg-number, is-circuit-number, is-leg-count}
 use Rattle.records.specs.Refusals.{refusal, first, unless}
 use Rattle.records.specs.Words.{word, payload, bits}
@@ -77,6 +80,16 @@ use-unranged i (w ∷ ws) = cond (use-ranged w) (use-unranged (suc i) ws) (Some 
 
 abbrev pub circuit-unranged : List ℕ → Option ℕ
 circuit-unranged ws = cond (head-ranged (getD ws 0 0)) (use-unranged 2 (drop 2 ws)) (Some 0)
+
+-- the word at an index is out of range
+abbrev pub Unranged : List ℕ → ℕ → Type 0
+Unranged ws zero = head-ranged (getD ws 0 0) ≡ false
+Unranged ws (suc zero) = ⊥
+Unranged ws (suc (suc i)) = Cases (nth (drop 2 ws) i) ⊥ (λ w. use-ranged w ≡ false)
+
+-- the index refused is the least that is out of range
+abbrev pub Least-unranged : Type 0
+Least-unranged = (ws : List ℕ) → Lowest (Unranged ws) (circuit-unranged ws)
 
 abbrev pub circuit-refusals : List ℕ → List (Option Refusal)
 circuit-refusals ws = refusal Layout (misplaced 0 circuit-layout ws) ∷ refusal Range (circuit-unranged ws) ∷ []

@@ -8,7 +8,7 @@ ghost use Rattle.std.specs.Of.Vec.{vec-items};
 ghost use Rattle.std.specs.Options.{mapped};
 ghost use Rattle.std.specs.Vec.{made};
 ghost use Rattle.std.specs.declared.option.Option.the-variants.{Some, None};
-ghost use Rattle.records.specs.Circuits.{use-record, use-read, use-ranged, use-word, use-unranged, head-ranged, circuit-record, circuit-words, circuit-decoded, Circuits-read-back};
+ghost use Rattle.records.specs.Circuits.{use-record, use-read, use-ranged, use-word, use-unranged, head-ranged, circuit-record, circuit-words, circuit-decoded, Circuits-read-back, Least-unranged};
 ghost use Rattle.records.specs.Refusals.{Gives, refusal, unless};
 ghost use Rattle.records.specs.Words.{bits, payload};
 ghost use Rattle.records.specs.declared.refusal.Reason.the-variants.{Range};
@@ -111,7 +111,8 @@ fn read_uses(heap: Global, words: &[u32]) -> Result<Vec<LegUse>, AllocError>
 
 impl Circuit {
     pub fn decode(heap: Global, words: &[u32]) -> Result<Circuit, Fault>
-        ensures { λ r. ⌜ Gives circuit-record (circuit-decoded (now (words .entry))) r ⌝ }
+        ensures gives { λ r. ⌜ Gives circuit-record (circuit-decoded (now (words .entry))) r ⌝ }
+        ensures least { λ _. ⌜ Least-unranged ⌝ }
     {
         layout::check(&layout::CIRCUIT, words)?;
         let [head, due, uses @ ..] = words else {
