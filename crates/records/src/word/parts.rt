@@ -6,7 +6,7 @@ use super::Kind;
 use super::Payload;
 
 impl Kind {
-    pub fn number(self) -> u32
+    pub(crate) fn number(self) -> u32
         ensures { λ r. ⌜ r ≡ kind-number self ⌝ }
     {
         match self {
@@ -23,7 +23,7 @@ impl Kind {
 }
 
 // The kind of a word, as a number.
-pub fn kind_of(w: u32) -> u32
+pub(crate) fn kind_of(w: u32) -> u32
     ensures { λ r. ⌜ r ≡ kind w ⌝ }
 {
     w >> 28
@@ -51,28 +51,28 @@ impl Payload {
     }
 
     // The word of a kind that holds the payload.
-    pub fn under(self, kind: Kind) -> u32
+    pub(crate) fn under(self, kind: Kind) -> u32
         ensures { λ r. ⌜ r ≡ word kind (self .bits) ⌝ }
     {
         kind.number() * (1 << 28) + self.bits
     }
 
     // Bits 27 to 20.
-    pub fn high(self) -> u8
+    pub(crate) fn high(self) -> u8
         ensures { λ r. ⌜ r ≡ bits 20 8 (self .bits) ⌝ }
     {
         ((self.bits >> 20) % 256) as u8
     }
 
     // Bits 19 to 10.
-    pub fn middle(self) -> u16
+    pub(crate) fn middle(self) -> u16
         ensures { λ r. ⌜ r ≡ bits 10 10 (self .bits) ⌝ }
     {
         ((self.bits >> 10) % 1024) as u16
     }
 
     // Bits 9 to 0.
-    pub fn low(self) -> u16
+    pub(crate) fn low(self) -> u16
         ensures { λ r. ⌜ r ≡ bits 0 10 (self .bits) ⌝ }
     {
         (self.bits % 1024) as u16
