@@ -1,0 +1,7 @@
+use mathlib.Core.Path.{refl}
+use native.Mathlib.Nat.{zero-add}
+use Rattle.quantities.specs.Meanings.{same-height}
+use Rattle.quantities.proofs.heights.terms.HeightsQuantity.opposite.Needs as need
+
+pub returns : need.returns
+returns c = same-height _ _ (rw zero-add)

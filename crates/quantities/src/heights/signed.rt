@@ -1,0 +1,25 @@
+// A height as a signed number.
+ghost use mathlib.Core.Path.{_≡_};
+ghost use lib.IntN.{natAbs};
+ghost use Rattle.quantities.specs.Residues.{signed-form, Signed-range};
+ghost use Rattle.quantities.specs.Heights.{height-modulus};
+ghost use Rattle.quantities.specs.Meanings.{heights-terms};
+use super::Height;
+
+const MODULUS: i128 = 1 << 64;
+
+impl Height {
+    // The sum in 0.01 mm, above zero or below.
+    pub fn signed(self) -> i128
+        ensures value { λ r. ⌜ r ≡ signed-form height-modulus (self .residue) ⌝ }
+        ensures range { λ r. ⌜ Signed-range height-modulus r ⌝ }
+        ensures size { λ r. ⌜ heights-terms .size self ≡ natAbs r ⌝ }
+    {
+        let residue = i128::from(self.residue);
+        if 2 * residue <= MODULUS {
+            residue
+        } else {
+            residue - MODULUS
+        }
+    }
+}

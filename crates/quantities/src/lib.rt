@@ -1,0 +1,4 @@
+// Quantities: what a leg carries and a circuit sums.
+pub mod angles;
+pub mod heights;
+pub mod quantity;
