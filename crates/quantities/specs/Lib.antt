@@ -5,3 +5,6 @@ pub mod Circles
 pub mod Heights
 pub mod Angles
 pub mod Meanings
+pub mod Acceptance
+pub mod Sums
+pub mod NeverWrap

@@ -1,4 +1,5 @@
 // Quantities: what a leg carries and a circuit sums.
+pub mod acceptance;
 pub mod angles;
 pub mod heights;
 pub mod quantity;

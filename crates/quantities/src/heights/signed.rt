@@ -4,6 +4,7 @@ ghost use lib.IntN.{natAbs};
 ghost use Rattle.quantities.specs.Residues.{signed-form, Signed-range};
 ghost use Rattle.quantities.specs.Heights.{height-modulus};
 ghost use Rattle.quantities.specs.Meanings.{heights-terms};
+ghost use Rattle.quantities.specs.NeverWrap.{Heights-never-wrap};
 use super::Height;
 
 const MODULUS: i128 = 1 << 64;
@@ -14,12 +15,20 @@ impl Height {
         ensures value { λ r. ⌜ r ≡ signed-form height-modulus (self .residue) ⌝ }
         ensures range { λ r. ⌜ Signed-range height-modulus r ⌝ }
         ensures size { λ r. ⌜ heights-terms .size self ≡ natAbs r ⌝ }
+        ensures true_sums { λ _. ⌜ Heights-never-wrap ⌝ }
     {
-        let residue = i128::from(self.residue);
-        if 2 * residue <= MODULUS {
-            residue
-        } else {
-            residue - MODULUS
-        }
+        nearest(self.residue)
+    }
+}
+
+// The number nearest to zero that has the residue.
+fn nearest(residue: u64) -> i128
+    ensures { λ r. ⌜ r ≡ signed-form height-modulus residue ⌝ }
+{
+    let above = i128::from(residue);
+    if 2 * above <= MODULUS {
+        above
+    } else {
+        above - MODULUS
     }
 }
