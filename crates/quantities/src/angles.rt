@@ -5,6 +5,8 @@ ghost use Rattle.quantities.specs.Angles.{full-circle};
 mod signed;
 mod terms;
 
+pub use terms::AnglesQuantity;
+
 #[derive(Clone, Copy)]
 pub struct Angles;
 

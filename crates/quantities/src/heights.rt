@@ -5,6 +5,8 @@ ghost use Rattle.quantities.specs.Heights.{height-modulus};
 mod signed;
 mod terms;
 
+pub use terms::HeightsQuantity;
+
 #[derive(Clone, Copy)]
 pub struct Heights;
 

@@ -3,3 +3,5 @@ pub mod acceptance;
 pub mod angles;
 pub mod heights;
 pub mod quantity;
+#[cfg(test)]
+mod tests;

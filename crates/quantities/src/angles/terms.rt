@@ -48,7 +48,7 @@ pub impl Quantity for Angles as AnglesQuantity {
     }
 
     fn misclosure(&self, _value: Payload, _back: Option<Payload>) -> Angle {
-        element(0)
+        self.zero()
     }
 
     fn due(&self, due: Payload) -> Angle {

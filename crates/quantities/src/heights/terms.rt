@@ -1,8 +1,5 @@
 // Heights as a quantity.
 ghost use mathlib.Core.Path.{_≡_};
-ghost use lib.Dec.{leb};
-ghost use mathlib.Core.Bool.{_&&_};
-ghost use lib.Signed.{leZ};
 ghost use Rattle.quantities.specs.Heights.{accepts-height};
 ghost use Rattle.quantities.specs.Meanings.{heights-terms, height-circle};
 use super::Height;
@@ -61,7 +58,7 @@ pub impl Quantity for Heights as HeightsQuantity {
 
     fn misclosure(&self, value: Payload, back: Option<Payload>) -> Height {
         match back {
-            None => element(0),
+            None => self.zero(),
             Some(back) => element(i64::from(value.signed()) + i64::from(back.signed())),
         }
     }

@@ -1,7 +1,6 @@
-use mathlib.Core.Path.{refl}
-use native.Mathlib.Nat.{zero-add}
+use native.Mathlib.Omega.{arith}
 use Rattle.quantities.specs.Meanings.{same-height}
 use Rattle.quantities.proofs.heights.terms.HeightsQuantity.opposite.Needs as need
 
 pub returns : need.returns
-returns c = same-height _ _ (rw zero-add)
+returns c = same-height _ _ (omega arith)
