@@ -20,10 +20,10 @@ use Rattle.records.specs.declared.circuit.Sense.the-variants.{Along, Against}
 use Rattle.quantities.specs.declared.heights.Height.{Height}
 use Rattle.quantities.specs.Residues.{signed-form}
 use Rattle.quantities.specs.Heights.{height-modulus, greatest-height, heights, accepts-height, accepts-back-height, double-rise, disagreement}
-use Rattle.quantities.specs.Meanings.{heights-terms, height-circle}
+use Rattle.quantities.specs.Meanings.{heights-terms, height-residues}
 use Rattle.quantities.specs.Sums.{LegRun, as-run, whole-sum, total, all-accepted, run-contribution, run-misclosure}
 use Rattle.quantities.specs.NeverWrap.{true-rise, true-misclosure, Heights-never-wrap}
-use Rattle.quantities.proofs.Totals.{total-near, element-opposite}
+use Rattle.quantities.proofs.Totals.{summed-near, element-opposite}
 
 height-bound : (p : ℕ) → accepts-height p ≡ true → natAbs (signed p) ≤ greatest-height
 height-bound p h =
@@ -56,29 +56,29 @@ all-within g within (leg ∷ legs) h =
     let own = and-parts (accepts-height (leg .value)) (accepts-back-height (leg .back)) (parts .0) in
     (within leg (own .0) (own .1), all-within g within legs (parts .1))
 
-map-through : (f : LegRun → Height) (g : LegRun → ℤ) → ((leg : LegRun) → f leg ≡ height-circle .element (g leg)) → (legs : List LegRun) → map f legs ≡ map (height-circle .element) (map g legs)
+map-through : (f : LegRun → Height) (g : LegRun → ℤ) → ((leg : LegRun) → f leg ≡ height-residues .element (g leg)) → (legs : List LegRun) → map f legs ≡ map (height-residues .element) (map g legs)
 map-through f g agrees [] = refl
 map-through f g agrees (leg ∷ legs) = λ i. agrees leg i ∷ map-through f g agrees legs i
 
-summed : (f : LegRun → Height) (g : LegRun → ℤ) → ((leg : LegRun) → f leg ≡ height-circle .element (g leg)) → Within g → (legs : List LegRun) → is-leg-count (length legs) ≡ true → all-accepted heights-terms legs ≡ true → signed-form height-modulus (total heights-terms (map f legs) .residue) ≡ whole-sum (map g legs)
-summed f g agrees within legs count accepted =
+true-total : (f : LegRun → Height) (g : LegRun → ℤ) → ((leg : LegRun) → f leg ≡ height-residues .element (g leg)) → Within g → (legs : List LegRun) → is-leg-count (length legs) ≡ true → all-accepted heights-terms legs ≡ true → signed-form height-modulus (total heights-terms (map f legs) .residue) ≡ whole-sum (map g legs)
+true-total f g agrees within legs count accepted =
     let few = leb-true (length legs) 16 (and-parts (leb 1 (length legs)) (leb (length legs) 16) count .1) in
     let short : 2 * (length (map g legs) * (2 * greatest-height)) < height-modulus = omega (arith, few, length-map legs g) in
     ap (λ xs. signed-form height-modulus (total heights-terms xs .residue)) (map-through f g agrees legs)
-    ∙ total-near height-modulus (lit< tt) height-circle (lit≤ tt) heights (2 * greatest-height) (map g legs) (all-within g within legs accepted) short
+    ∙ summed-near height-modulus (lit< tt) height-residues (lit≤ tt) heights (2 * greatest-height) (map g legs) (all-within g within legs accepted) short
 
-run-agrees : (s : Sense) (z : ℤ) → as-run (heights-terms .opposite) s (height-circle .element z) ≡ height-circle .element (as-run negℤ s z)
+run-agrees : (s : Sense) (z : ℤ) → as-run (heights-terms .opposite) s (height-residues .element z) ≡ height-residues .element (as-run negℤ s z)
 run-agrees Along z = refl
-run-agrees Against z = element-opposite height-modulus (lit< tt) height-circle (lit≤ tt) heights z
+run-agrees Against z = element-opposite height-modulus (lit< tt) height-residues (lit≤ tt) heights z
 
 pub heights-never-wrap : Heights-never-wrap
 unfolding Within
 heights-never-wrap legs count accepted = (
-  summed (run-contribution heights-terms) true-rise
+  true-total (run-contribution heights-terms) true-rise
       (λ leg. run-agrees (leg .sense) (double-rise (leg .value) (leg .back)))
       (λ leg v b. rw as-run-size (rise-bound (leg .value) v (leg .back) b))
       legs count accepted,
-  summed (run-misclosure heights-terms) true-misclosure
+  true-total (run-misclosure heights-terms) true-misclosure
       (λ leg. refl)
       (λ leg v b. disagreement-bound (leg .value) v (leg .back) b)
       legs count accepted,

@@ -9,7 +9,7 @@ use lib.IntN.{ℤ, pos, _+ℤ_, negℤ, natAbs}
 use lib.ListN.{length}
 use Rattle.std.specs.shelf.Lists.{All}
 use Rattle.quantities.specs.Residues.{residue-plus, residue-opposite, least-residue, signed-form}
-use Rattle.quantities.specs.Circles.{Circle, Measures, terms, sum-residue, turned, turned-residue}
+use Rattle.quantities.specs.Modular.{ResidueType, Measures, terms, sum-residue, negated, negated-residue}
 use Rattle.quantities.specs.Sums.{whole-sum, total}
 use Rattle.quantities.proofs.Wholes.{least-sum, least-opposite, signed-near}
 
@@ -19,24 +19,27 @@ whole-sum-bound b [] h = omega arith
 whole-sum-bound b (z ∷ zs) h =
     omega (arith, ints, h .0, whole-sum-bound b zs (h .1), add-mul 1 (length zs) b)
 
-module _ {Element : Type 0} (m : ℕ) (positive : 0 < m) (circle : Circle m Element) (fits : m ≤ 2 ^ 64) (measures : Measures) where
-  pub total-residue : (zs : List ℤ) → circle .residue (total (terms m positive circle fits measures) (map (circle .element) zs)) ≡ least-residue m (whole-sum zs)
-  total-residue [] = circle .reduced (pos 0)
-  total-residue (z ∷ zs) =
-      sum-residue m positive circle (circle .element z) (total (terms m positive circle fits measures) (map (circle .element) zs))
-      ∙ ap (λ n. residue-plus m n (circle .residue (total (terms m positive circle fits measures) (map (circle .element) zs)))) (circle .reduced z)
-      ∙ ap (residue-plus m (least-residue m z)) (total-residue zs)
+module _ {Element : Type 0} (m : ℕ) (positive : 0 < m) (residues : ResidueType m Element) (fits : m ≤ 2 ^ 64) (measures : Measures) where
+  abbrev pub summed : List ℤ → Element
+  summed zs = total (terms m positive residues fits measures) (map (residues .element) zs)
+
+  pub summed-residue : (zs : List ℤ) → residues .residue (summed zs) ≡ least-residue m (whole-sum zs)
+  summed-residue [] = residues .reduced (pos 0)
+  summed-residue (z ∷ zs) =
+      sum-residue m positive residues (residues .element z) (summed zs)
+      ∙ ap (λ n. residue-plus m n (residues .residue (summed zs))) (residues .reduced z)
+      ∙ ap (residue-plus m (least-residue m z)) (summed-residue zs)
       ∙ sym (least-sum m positive z (whole-sum zs))
 
   -- The sum never wraps: whole numbers that together stay below half of m are summed truly by their residues.
-  pub total-near : (b : ℕ) (zs : List ℤ) → All (λ z. natAbs z ≤ b) zs → 2 * (length zs * b) < m → signed-form m (circle .residue (total (terms m positive circle fits measures) (map (circle .element) zs))) ≡ whole-sum zs
-  total-near b zs small short =
+  pub summed-near : (b : ℕ) (zs : List ℤ) → All (λ z. natAbs z ≤ b) zs → 2 * (length zs * b) < m → signed-form m (residues .residue (summed zs)) ≡ whole-sum zs
+  summed-near b zs small short =
       let near : 2 * natAbs (whole-sum zs) < m = omega (arith, whole-sum-bound b zs small) in
-      ap (signed-form m) (total-residue zs) ∙ signed-near m positive (whole-sum zs) near
+      ap (signed-form m) (summed-residue zs) ∙ signed-near m positive (whole-sum zs) near
 
-  pub element-opposite : (z : ℤ) → turned m positive circle (circle .element z) ≡ circle .element (negℤ z)
+  pub element-opposite : (z : ℤ) → negated m positive residues (residues .element z) ≡ residues .element (negℤ z)
   element-opposite z =
-      circle .same _ _ (turned-residue m positive circle (circle .element z)
-      ∙ ap (residue-opposite m) (circle .reduced z)
+      residues .same _ _ (negated-residue m positive residues (residues .element z)
+      ∙ ap (residue-opposite m) (residues .reduced z)
       ∙ sym (least-opposite m positive z)
-      ∙ sym (circle .reduced (negℤ z)))
+      ∙ sym (residues .reduced (negℤ z)))

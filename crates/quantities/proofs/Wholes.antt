@@ -1,5 +1,5 @@
 -- Whole numbers and their least residues: sums, opposites, and the way back.
-use mathlib.Core.Path.{_≡_, refl, sym, ap, _∙_}
+use mathlib.Core.Path.{_≡_, refl, sym, ap, subst, _∙_}
 use mathlib.Core.Bool.{true, false, cond}
 use mathlib.Core.Logic.{_⊎_, inl, inr}
 use Prim.Native.Nat.{ℕ, zero, suc, _+_, _-_, _*_, _/_, _%_, _^_, _<_, _≤_}
@@ -124,6 +124,20 @@ module _ (m : ℕ) (positive : 0 < m) where
         | inl h ↦ rw (h .1) (omega (arith, ints, h .0), omega (arith, ints, h .0))
         | inr h ↦ rw (h .1) (omega (arith, ints, h .0), omega (arith, ints, h .0))
       ]
+
+-- a signed number r that is the signed form of the residue a
+pub record Nearest (m a : ℕ) (r : ℤ) : Type 0 where
+  pub range : Signed-range m r
+  pub same-residue : least-residue m r ≡ a
+  pub size : residue-size m a ≡ natAbs r
+
+pub nearest : (m : ℕ) → 0 < m → (a : ℕ) → a < m → (r : ℤ) → r ≡ signed-form m a → Nearest m a r
+nearest m positive a below r is =
+    record {
+      range = subst (Signed-range m) (sym is) (signed-range m positive a below);
+      same-residue = ap (least-residue m) is ∙ signed-least m positive a below;
+      size = signed-size m positive a below ∙ ap natAbs (sym is);
+    }
 
 pub bits-least : (z : ℤ) → SFits w64 z → ofZ w64 z ≡ least-residue (2 ^ 64) z
 bits-least (pos n) fits = sym (mod-eq-of-lt (omega (arith, fits .sfits)))

@@ -7,7 +7,7 @@ use lib.IntN.{ℤ, pos}
 use Rattle.std.specs.declared.option.Option.{Option}
 use Rattle.std.specs.declared.option.Option.the-variants.{Some, None}
 use Rattle.records.specs.Ranges.{between}
-use Rattle.quantities.specs.Circles.{Measures}
+use Rattle.quantities.specs.Modular.{Measures}
 
 abbrev pub full-circle : ℕ
 full-circle = 129600000

@@ -8,7 +8,7 @@ use lib.Signed.{leZ}
 use Rattle.std.specs.declared.option.Option.{Option}
 use Rattle.std.specs.declared.option.Option.the-variants.{Some, None}
 use Rattle.records.specs.Words.{signed}
-use Rattle.quantities.specs.Circles.{Measures}
+use Rattle.quantities.specs.Modular.{Measures}
 
 abbrev pub height-modulus : ℕ
 height-modulus = 2 ^ 64

@@ -1,7 +1,7 @@
 pub mod Terms
 pub mod Residues
 pub mod ResidueLaws
-pub mod Circles
+pub mod Modular
 pub mod Heights
 pub mod Angles
 pub mod Meanings

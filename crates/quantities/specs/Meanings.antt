@@ -6,7 +6,7 @@ use Rattle.quantities.specs.declared.angles.Angle.{Angle}
 use Rattle.quantities.specs.Terms.{Terms}
 use Rattle.quantities.specs.Residues.{least-residue}
 use Rattle.quantities.specs.ResidueLaws.{least-below, below-along}
-use Rattle.quantities.specs.Circles.{Circle, terms}
+use Rattle.quantities.specs.Modular.{ResidueType, terms}
 use Rattle.quantities.specs.Heights.{height-modulus, heights}
 use Rattle.quantities.specs.Angles.{full-circle, angles}
 
@@ -16,8 +16,8 @@ same-height x y e = λ i. record { residue = e i; fits = below-along height-modu
 pub same-angle : (x y : Angle) → x .residue ≡ y .residue → x ≡ y
 same-angle x y e = λ i. record { residue = e i; fits = below-along full-circle e (x .fits) (y .fits) i }
 
-abbrev pub height-circle : Circle height-modulus Height
-height-circle =
+abbrev pub height-residues : ResidueType height-modulus Height
+height-residues =
     record {
       residue = λ x. x .residue;
       element = λ z. record { residue = least-residue height-modulus z; fits = least-below height-modulus (lit< tt) z };
@@ -26,8 +26,8 @@ height-circle =
       same = same-height;
     }
 
-abbrev pub angle-circle : Circle full-circle Angle
-angle-circle =
+abbrev pub angle-residues : ResidueType full-circle Angle
+angle-residues =
     record {
       residue = λ x. x .residue;
       element = λ z. record { residue = least-residue full-circle z; fits = least-below full-circle (lit< tt) z };
@@ -37,7 +37,7 @@ angle-circle =
     }
 
 abbrev pub heights-terms : Terms Height
-heights-terms = terms height-modulus (lit< tt) height-circle (lit≤ tt) heights
+heights-terms = terms height-modulus (lit< tt) height-residues (lit≤ tt) heights
 
 abbrev pub angles-terms : Terms Angle
-angles-terms = terms full-circle (lit< tt) angle-circle (lit≤ tt) angles
+angles-terms = terms full-circle (lit< tt) angle-residues (lit≤ tt) angles

@@ -7,6 +7,9 @@ mod terms;
 
 pub use terms::AnglesQuantity;
 
+// The whole circle.
+const CIRCLE: u32 = 129_600_000;
+
 #[derive(Clone, Copy)]
 pub struct Angles;
 

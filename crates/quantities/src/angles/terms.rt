@@ -1,22 +1,21 @@
 // Angles as a quantity.
 ghost use mathlib.Core.Path.{_≡_};
 ghost use lib.IntN.{pos};
-ghost use Rattle.quantities.specs.Meanings.{angles-terms, angle-circle};
+ghost use Rattle.quantities.specs.Meanings.{angles-terms, angle-residues};
 use super::Angle;
 use super::Angles;
+use super::CIRCLE;
 use crate::quantity::Quantity;
 use records::word::Payload;
 
-// The whole circle.
-const CIRCLE: u32 = 129_600_000;
-
+// Half a circle, less and more 60 seconds of arc.
 const LEAST_DUE: u32 = 64_794_000;
 
 const GREATEST_DUE: u32 = 64_806_000;
 
 // The element of a whole number.
 fn element(angle: u32) -> Angle
-    ensures { λ r. ⌜ r ≡ angle-circle .element (pos angle) ⌝ }
+    ensures { λ r. ⌜ r ≡ angle-residues .element (pos angle) ⌝ }
 {
     Angle {
         residue: angle % CIRCLE,

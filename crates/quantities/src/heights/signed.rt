@@ -1,7 +1,7 @@
 // A height as a signed number.
 ghost use mathlib.Core.Path.{_≡_};
 ghost use lib.IntN.{natAbs};
-ghost use Rattle.quantities.specs.Residues.{signed-form, Signed-range};
+ghost use Rattle.quantities.specs.Residues.{least-residue, signed-form, Signed-range};
 ghost use Rattle.quantities.specs.Heights.{height-modulus};
 ghost use Rattle.quantities.specs.Meanings.{heights-terms};
 ghost use Rattle.quantities.specs.NeverWrap.{Heights-never-wrap};
@@ -14,6 +14,7 @@ impl Height {
     pub fn signed(self) -> i128
         ensures value { λ r. ⌜ r ≡ signed-form height-modulus (self .residue) ⌝ }
         ensures range { λ r. ⌜ Signed-range height-modulus r ⌝ }
+        ensures same_residue { λ r. ⌜ least-residue height-modulus r ≡ self .residue ⌝ }
         ensures size { λ r. ⌜ heights-terms .size self ≡ natAbs r ⌝ }
         ensures true_sums { λ _. ⌜ Heights-never-wrap ⌝ }
     {

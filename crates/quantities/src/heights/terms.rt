@@ -1,7 +1,7 @@
 // Heights as a quantity.
 ghost use mathlib.Core.Path.{_≡_};
 ghost use Rattle.quantities.specs.Heights.{accepts-height};
-ghost use Rattle.quantities.specs.Meanings.{heights-terms, height-circle};
+ghost use Rattle.quantities.specs.Meanings.{heights-terms, height-residues};
 use super::Height;
 use super::Heights;
 use crate::quantity::Quantity;
@@ -21,7 +21,7 @@ fn accepts(payload: Payload) -> bool
 
 // The element of a whole number.
 fn element(difference: i64) -> Height
-    ensures { λ r. ⌜ r ≡ height-circle .element difference ⌝ }
+    ensures { λ r. ⌜ r ≡ height-residues .element difference ⌝ }
 {
     Height {
         residue: difference.cast_unsigned(),
