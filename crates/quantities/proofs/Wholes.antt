@@ -1,9 +1,8 @@
 -- Whole numbers and their least residues: sums, opposites, and the way back.
 use mathlib.Core.Path.{_≡_, refl, sym, ap, subst, _∙_}
-use mathlib.Core.Bool.{true, false, cond}
 use mathlib.Core.Logic.{_⊎_, inl, inr}
 use Prim.Native.Nat.{ℕ, zero, suc, _+_, _-_, _*_, _/_, _%_, _^_, _<_, _≤_}
-use native.Mathlib.Nat.{add-mul, add-mod, mod-lt, mod-eq-of-lt, div-add-mod', add-mul-mod-self-right, zero-add, one-mul, zero-mod, sub-zero, mod-self}
+use native.Mathlib.Nat.{add-mul, add-mod, mod-lt, mod-eq-of-lt, div-add-mod', add-mul-mod-self-right, zero-add, zero-mod, sub-zero, mod-self}
 use native.Mathlib.Omega.{arith}
 use borrow.Author.Differences.{up, down, sum-is, ints}
 use lib.Dec.{leb, lit<}
@@ -12,7 +11,7 @@ use mir.Syntax.{w64}
 use mir.Val.{SFits, ofZ}
 use Rattle.std.proofs.shelf.Tests.{cases-lt, cond-true, cond-false, le-leb, lt-leb}
 use Rattle.quantities.specs.Residues.{residue-plus, residue-opposite, residue-size, least-residue, signed-form, Signed-range}
-use Rattle.quantities.specs.ResidueLaws.{opposite-cases, least-below}
+use Rattle.quantities.specs.ResidueLaws.{opposite-cases}
 
 -- numbers that differ by multiples of m have one residue
 pub same-residue : (m x j y k : ℕ) → x + j * m ≡ y + k * m → x % m ≡ y % m

@@ -1,5 +1,5 @@
 -- A quantity whose elements are the least residues modulo m: what it reads from payloads, as whole numbers, and its terms.
-use mathlib.Core.Path.{_≡_, refl, sym, ap, _∙_}
+use mathlib.Core.Path.{_≡_, sym, ap, _∙_}
 use mathlib.Core.Bool.{Bool}
 use Prim.Native.Nat.{ℕ, _+_, _-_, _^_, _<_, _≤_}
 use native.Mathlib.Nat.{zero-mod}

@@ -1,8 +1,8 @@
 -- The laws of least residues, each for every modulus above zero.
-use mathlib.Core.Path.{_≡_, PathP, refl, sym, ap, _∙_}
+use mathlib.Core.Path.{_≡_, PathP, sym, ap, _∙_}
 use mathlib.Core.HLevel.{isProp→PathP}
 use mathlib.Core.Logic.{inl, inr, _⊎_}
-use Prim.Native.Nat.{ℕ, zero, _+_, _-_, _*_, _%_, _<_, _≤_, min}
+use Prim.Native.Nat.{ℕ, zero, _+_, _-_, _%_, _<_}
 use native.Mathlib.Nat.{add-assoc, add-comm, add-zero, mod-lt, mod-eq-of-lt, mod-self, mod-add-mod, add-mod-mod}
 use native.Mathlib.Bridge.{le-prop}
 use native.Mathlib.Omega.{arith}
