@@ -1,0 +1,10 @@
+pub mod Terms
+pub mod Residues
+pub mod ResidueLaws
+pub mod Modular
+pub mod Heights
+pub mod Angles
+pub mod Meanings
+pub mod Acceptance
+pub mod Sums
+pub mod NeverWrap
