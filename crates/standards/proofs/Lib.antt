@@ -1,0 +1,2 @@
+pub mod FiveBits
+pub mod Bests

@@ -1,0 +1,3 @@
+// The standards: classes and sets of them, findings, the rules of a standard, its two tables, and how classes are gathered.
+pub mod class;
+pub mod class_set;
