@@ -1,2 +1,5 @@
 pub mod Classes
 pub mod ClassSets
+pub mod NoWorse
+pub mod Rules
+pub mod Gathering

@@ -1,3 +1,6 @@
 // The standards: classes and sets of them, findings, the rules of a standard, its two tables, and how classes are gathered.
 pub mod class;
 pub mod class_set;
+pub mod finding;
+pub mod gathering;
+pub mod standard;
