@@ -3,3 +3,4 @@ pub mod ClassSets
 pub mod NoWorse
 pub mod Rules
 pub mod Gathering
+pub mod Limits

@@ -3,4 +3,5 @@ pub mod class;
 pub mod class_set;
 pub mod finding;
 pub mod gathering;
+pub mod limits;
 pub mod standard;
