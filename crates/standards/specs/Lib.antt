@@ -4,3 +4,8 @@ pub mod NoWorse
 pub mod Rules
 pub mod Gathering
 pub mod Limits
+pub mod Laws
+pub mod Tables
+pub mod Forms
+pub mod Level
+pub mod Triangulation

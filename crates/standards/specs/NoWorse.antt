@@ -45,6 +45,10 @@ whole-kind =
       others = λ f. record { circuits = f .circuits; closures = 0 };
     }
 
+-- a is better as more, b and c as less
+abbrev pub more-less-less : Directions
+more-less-less = record { a = More; b = Less; c = Less }
+
 abbrev pub No-worse-reading : Direction → ℕ → ℕ → Type 0
 No-worse-reading More x y = y ≤ x
 No-worse-reading Less x y = x ≤ y

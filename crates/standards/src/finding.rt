@@ -55,3 +55,10 @@ pub struct Directions {
     pub b: Direction,
     pub c: Direction,
 }
+
+// A is better as more, b and c as less.
+pub const MORE_LESS_LESS: Directions = Directions {
+    a: Direction::More,
+    b: Direction::Less,
+    c: Direction::Less,
+};

@@ -3,5 +3,7 @@ pub mod class;
 pub mod class_set;
 pub mod finding;
 pub mod gathering;
+pub mod level;
 pub mod limits;
 pub mod standard;
+pub mod triangulation;

@@ -11,7 +11,13 @@ pub fn at_least(value: u8, limits: [u16; 5]) -> ClassSet
 {
     let [first, second, third, fourth, fifth] = limits;
     let value = value as u16;
-    ClassSet::of([value >= first, value >= second, value >= third, value >= fourth, value >= fifth])
+    ClassSet::of([
+        value >= first,
+        value >= second,
+        value >= third,
+        value >= fourth,
+        value >= fifth,
+    ])
 }
 
 pub fn at_most(value: u64, limits: [u16; 5]) -> ClassSet
