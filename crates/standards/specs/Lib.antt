@@ -7,5 +7,6 @@ pub mod Limits
 pub mod Laws
 pub mod Tables
 pub mod Forms
+pub mod Acceptance
 pub mod Level
 pub mod Triangulation
