@@ -32,6 +32,7 @@ const OWN_MISCLOSURE: [u16; 5] = [3, 4, 6, 8, 12];
 const CLOSURE: [u16; 5] = [4, 5, 6, 8, 12];
 
 const SUMMED_MISCLOSURE: [u16; 5] = [3, 4, 6, 8, 12];
+
 // where 0 is never: no length is less
 const SINGLE_LENGTH: [u16; 5] = [0, 0, 0, 25_000, 10_000];
 
@@ -77,21 +78,17 @@ pub impl Standard for LevelStandard as Level {
     }
 
     fn leg_classes(&self, rule: u8, finding: &LegFinding) -> ClassSet {
-        match rule {
-            0 => at_least(finding.readings.a, METHOD),
-            1 => at_most(finding.readings.b as u64, LONGEST_SIGHT),
-            2 => at_most(finding.readings.c as u64, SIGHT_DIFFERENCE),
-            3 => match finding.running {
-                Running::Single => ClassSet::all(),
-                Running::Double => {
-                    square_at_most(
-                        finding.misclosure,
-                        MISCLOSURE_FACTOR,
-                        OWN_MISCLOSURE,
-                        finding.length.metres,
-                    )
-                }
-            },
+        let readings = finding.readings;
+        match (rule, finding.running) {
+            (0, _) => at_least(readings.a, METHOD),
+            (1, _) => at_most(readings.b as u64, LONGEST_SIGHT),
+            (2, _) => at_most(readings.c as u64, SIGHT_DIFFERENCE),
+            (3, Running::Double) => square_at_most(
+                finding.misclosure,
+                MISCLOSURE_FACTOR,
+                OWN_MISCLOSURE,
+                finding.length.metres,
+            ),
             _ => ClassSet::all(),
         }
     }
