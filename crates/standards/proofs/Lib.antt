@@ -1,0 +1,4 @@
+pub mod FiveBits
+pub mod Bests
+pub mod Orders
+pub mod Gathered

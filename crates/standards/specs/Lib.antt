@@ -1,0 +1,12 @@
+pub mod Classes
+pub mod ClassSets
+pub mod NoWorse
+pub mod Rules
+pub mod Gathering
+pub mod Limits
+pub mod Laws
+pub mod Tables
+pub mod Forms
+pub mod Acceptance
+pub mod Level
+pub mod Triangulation
