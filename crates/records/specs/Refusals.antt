@@ -9,9 +9,9 @@ use Rattle.std.specs.declared.result.Result.{Result}
 use Rattle.std.specs.declared.result.Result.the-variants.{Ok, Err}
 use Rattle.std.specs.Results.{isOk}
 use Rattle.records.specs.declared.refusal.Part.{Part}
-use Rattle.records.specs.declared.refusal.Part.the-variants.{Words, Quantity, Standard}
+use Rattle.records.specs.declared.refusal.Part.the-variants.{Words, Quantity, Standard, Book}
 use Rattle.records.specs.declared.refusal.Reason.{Reason}
-use Rattle.records.specs.declared.refusal.Reason.the-variants.{Layout, Range, Measure, Observation, Form}
+use Rattle.records.specs.declared.refusal.Reason.the-variants.{Layout, Range, Measure, Observation, Form, Taken, Absent, InUse, Twice, Broken, NoLeg, Loose, NoClass, TooFew}
 use Rattle.records.specs.declared.refusal.Refusal.{Refusal}
 use Rattle.records.specs.declared.refusal.Fault.{Fault}
 use Rattle.records.specs.declared.refusal.Fault.the-variants.{Refused, Memory}
@@ -23,9 +23,18 @@ pub record Row : Type 0 where
 abbrev pub row : Reason → Row
 row Layout = record { number = 1; part = Words }
 row Range = record { number = 2; part = Words }
+row Taken = record { number = 3; part = Book }
+row Absent = record { number = 4; part = Book }
+row InUse = record { number = 5; part = Book }
 row Measure = record { number = 6; part = Quantity }
 row Observation = record { number = 7; part = Standard }
+row Twice = record { number = 8; part = Book }
+row Broken = record { number = 9; part = Book }
 row Form = record { number = 10; part = Standard }
+row NoLeg = record { number = 11; part = Book }
+row Loose = record { number = 12; part = Book }
+row NoClass = record { number = 13; part = Book }
+row TooFew = record { number = 14; part = Book }
 
 -- the refusal for a reason, where it has a place
 abbrev pub refusal : Reason → Option ℕ → Option Refusal

@@ -11,6 +11,7 @@ pub enum Part {
     Words,
     Quantity,
     Standard,
+    Book,
 }
 
 // What was wrong.
@@ -26,6 +27,23 @@ pub enum Reason {
     Observation,
     // a circuit form that the standard does not accept
     Form,
+    // the number already stands
+    Taken,
+    // the number does not stand
+    Absent,
+    // a standing circuit uses the leg
+    InUse,
+    // a circuit names a leg twice
+    Twice,
+    // a leg does not begin where the one before it ended
+    Broken,
+    NoLeg,
+    // a leg that no circuit uses
+    Loose,
+    // a class that is not 1 to 5
+    NoClass,
+    // fewer words than misses
+    TooFew,
 }
 
 #[derive(Clone, Copy, PartialEq, Eq, Debug)]
@@ -51,6 +69,15 @@ impl Reason {
             Reason::Measure => 6,
             Reason::Observation => 7,
             Reason::Form => 10,
+            Reason::Taken => 3,
+            Reason::Absent => 4,
+            Reason::InUse => 5,
+            Reason::Twice => 8,
+            Reason::Broken => 9,
+            Reason::NoLeg => 11,
+            Reason::Loose => 12,
+            Reason::NoClass => 13,
+            Reason::TooFew => 14,
         }
     }
 
@@ -58,11 +85,10 @@ impl Reason {
         ensures { λ r. ⌜ r ≡ row (now (self .entry)) .part ⌝ }
     {
         match self {
-            Reason::Layout => Part::Words,
-            Reason::Range => Part::Words,
+            Reason::Layout | Reason::Range => Part::Words,
             Reason::Measure => Part::Quantity,
-            Reason::Observation => Part::Standard,
-            Reason::Form => Part::Standard,
+            Reason::Observation | Reason::Form => Part::Standard,
+            _ => Part::Book,
         }
     }
 }

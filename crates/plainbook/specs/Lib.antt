@@ -1,0 +1,6 @@
+pub mod Surveys
+pub mod Findings
+pub mod Grades
+pub mod Refusals
+pub mod Misses
+pub mod Steps
