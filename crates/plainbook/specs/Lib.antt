@@ -4,3 +4,5 @@ pub mod Grades
 pub mod Refusals
 pub mod Misses
 pub mod Steps
+pub mod Rewritings
+pub mod Promise

@@ -21,10 +21,10 @@ pub record Survey : Type 0 where
   pub circuits : ℕ → Option CircuitRecord
 
 -- the numbers that a leg and a circuit can have, in order
-abbrev pub leg-numbers : List ℕ
+unfoldable pub leg-numbers : List ℕ
 leg-numbers = counting 1 128
 
-abbrev pub circuit-numbers : List ℕ
+unfoldable pub circuit-numbers : List ℕ
 circuit-numbers = counting 1 32
 
 -- what stands at the numbers given, in their order
