@@ -15,9 +15,10 @@ use Rattle.std.proofs.shelf.Tests.{cases-bool, both-ways}
 use Rattle.std.proofs.shelf.Ways.{decides-by-and, decides-below-and}
 use Rattle.standards.specs.declared.class.Class.{Class}
 use Rattle.standards.specs.declared.finding.Directions.{Directions}
-use Rattle.standards.specs.Gathering.{meets-first, all-meet, All-meet, Misses-no-more}
+use Rattle.standards.specs.Gathering.{meets-first, all-meet, All-meet, Keeps-order}
 use Rattle.standards.specs.NoWorse.{Kind, No-worse}
 use Rattle.standards.specs.Rules.{Table}
+use Rattle.standards.proofs.Orders.{preorder}
 
 first-last : (p e m : Bool) → ((p && e) && m) ≡ ((m && p) && e)
 first-last true true true = refl
@@ -77,6 +78,19 @@ module _ {Finding : Type 0} {kind : Kind Finding} {better : Directions} (table :
       ⊎-elim (λ met. absurd (both-ways (table .meets rule f k) missed (table .law rule f g no-worse k met))) (λ e. e)
       (cases-bool (table .meets rule g k))
 
-  pub misses-no-more : Misses-no-more table
-  misses-no-more fs gs pairs i within rule k missed d =
-      misses-one (getD fs i d) (getD gs i d) (each-getD (No-worse kind better) fs gs i d d pairs within) rule k (missed d)
+  meets-no-less : (fs gs : List Finding) → Each (No-worse kind better) fs gs → (k : Class) → All-meet table gs k → All-meet table fs k
+  meets-no-less [] [] pairs k met = tt
+  meets-no-less [] (g ∷ gs) pairs k met = absurd pairs
+  meets-no-less (f ∷ fs) [] pairs k met = absurd pairs
+  meets-no-less (f ∷ fs) (g ∷ gs) (no-worse, pairs) k (met, rest) =
+      (λ rule within. table .law rule f g no-worse k (met rule within), meets-no-less fs gs pairs k rest)
+
+  pub keeps-order : Keeps-order table
+  keeps-order =
+      record {
+        misses =
+            λ fs gs pairs i within rule k missed d.
+            misses-one (getD fs i d) (getD gs i d) (each-getD (No-worse kind better) fs gs i d d pairs within) rule k (missed d);
+        meets = meets-no-less;
+        order = preorder kind better;
+      }

@@ -6,10 +6,8 @@ use native.Mathlib.Nat.{le-trans}
 use lib.Dec.{leb}
 use Rattle.std.proofs.shelf.Bits.{mul-le}
 use Rattle.std.proofs.shelf.Tests.{leb-true, le-leb}
-use Rattle.records.specs.declared.leg.Running.{Running}
-use Rattle.records.specs.declared.leg.Running.the-variants.{Single, Double}
 use Rattle.standards.specs.declared.class.Class.{Class}
-use Rattle.standards.specs.Limits.{if-double, if-closed}
+use Rattle.standards.specs.Limits.{where-asked}
 
 pub below : (x y bound : ℕ) → x ≤ y → leb y bound ≡ true → leb x bound ≡ true
 below x y bound h met = le-leb x bound (le-trans h (leb-true y bound met))
@@ -21,12 +19,7 @@ pub square-below : (x y bound : ℕ) → x ≤ y → leb (y * y) bound ≡ true 
 square-below x y bound h = below (x * x) (y * y) bound (mul-le x x y y h h)
 
 -- a rule that asks something of some findings only
-pub through-double : (running : Running) (p q : Class → Bool) (k : Class) → (p k ≡ true → q k ≡ true)
-    → if-double running p k ≡ true → if-double running q k ≡ true
-through-double Single p q k step met = met
-through-double Double p q k step met = step met
-
-pub through-closed : (closed : Bool) (p q : Class → Bool) (k : Class) → (p k ≡ true → q k ≡ true)
-    → if-closed closed p k ≡ true → if-closed closed q k ≡ true
-through-closed true p q k step met = step met
-through-closed false p q k step met = met
+pub through-asked : (asked : Bool) (p q : Class → Bool) (k : Class) → (p k ≡ true → q k ≡ true)
+    → where-asked asked p k ≡ true → where-asked asked q k ≡ true
+through-asked true p q k step met = step met
+through-asked false p q k step met = met

@@ -1,5 +1,5 @@
 -- The ways in which a table compares: a number against a limit for each class.
-use mathlib.Core.Bool.{Bool, true, false, not}
+use mathlib.Core.Bool.{Bool, true, false}
 use mathlib.Core.List.{List}
 use Prim.Native.Nat.{ℕ, _*_}
 use lib.Dec.{leb, ltb}
@@ -28,18 +28,11 @@ square-at-most x factor limits metres k = leb (x * x) (factor * (limit limits k 
 abbrev pub less : ℕ → List ℕ → Class → Bool
 less x limits k = ltb x (limit limits k)
 
--- A rule for some findings only: it is met where it does not apply.
-abbrev pub if-double : Running → (Class → Bool) → Class → Bool
-if-double Single test k = true
-if-double Double test k = test k
+-- a rule for some findings only: it is met where it is not asked
+abbrev pub where-asked : Bool → (Class → Bool) → Class → Bool
+where-asked true test k = test k
+where-asked false test k = true
 
-abbrev pub if-single : Running → (Class → Bool) → Class → Bool
-if-single Single test k = test k
-if-single Double test k = true
-
-abbrev pub if-closed : (closed : Bool) → (Class → Bool) → Class → Bool
-if-closed true test k = test k
-if-closed false test k = true
-
-abbrev pub if-open : (closed : Bool) → (Class → Bool) → Class → Bool
-if-open closed test k = if-closed (not closed) test k
+abbrev pub is-double : Running → Bool
+is-double Single = false
+is-double Double = true

@@ -1,10 +1,9 @@
 // The classes that every rule meets on every finding, gathered the same way for legs, for circuits and for the whole.
 ghost use mathlib.Core.Path.{_≡_};
-ghost use Rattle.std.specs.Orderings.{Decides};
 ghost use Rattle.standards.specs.declared.class.Class.{Class};
 ghost use Rattle.standards.specs.ClassSets.{holds};
-ghost use Rattle.standards.specs.Gathering.{all-meet, All-meet, Misses-no-more};
-ghost use Rattle.standards.specs.NoWorse.{Kind, Preorder, leg-kind, circuit-kind, whole-kind};
+ghost use Rattle.standards.specs.Gathering.{Gathered, Keeps-order};
+ghost use Rattle.standards.specs.NoWorse.{Kind, leg-kind, circuit-kind, whole-kind};
 ghost use Rattle.standards.specs.Rules.{Rules, Table};
 use crate::class_set::ClassSet;
 use crate::finding::CircuitFinding;
@@ -69,10 +68,8 @@ pub impl Finding for WholeFinding as OfWhole {
 
 // The classes that every rule meets on every finding.
 pub fn gather<S: Standard, F: Finding>(standard: &S, findings: &[F]) -> ClassSet
-    ensures members { λ r. ⌜ ((k : Class) → holds r k ≡ all-meet (F·Finding .table (S·Standard .meaning (now (standard .entry)))) (now (findings .entry)) k) ⌝ }
-    ensures every { λ r. ⌜ ((k : Class) → Decides (holds r k) (All-meet (F·Finding .table (S·Standard .meaning (now (standard .entry)))) (now (findings .entry)) k)) ⌝ }
-    ensures law { λ _. ⌜ Misses-no-more (F·Finding .table (S·Standard .meaning (now (standard .entry)))) ⌝ }
-    ensures order { λ _. ⌜ Preorder (F·Finding .kind) (S·Standard .meaning (now (standard .entry)) .directions) ⌝ }
+    ensures gathered { λ r. ⌜ Gathered (F·Finding .table (S·Standard .meaning (now (standard .entry)))) (now (findings .entry)) (holds r) ⌝ }
+    ensures law { λ _. ⌜ Keeps-order (F·Finding .table (S·Standard .meaning (now (standard .entry)))) ⌝ }
 {
     let mut met = ClassSet::all();
     for finding in findings {

@@ -1,11 +1,11 @@
+-- A rule more, a finding more, and what is gathered at the end.
 use mathlib.Core.Path.{_≡_}
 use native.Mathlib.Omega.{arith}
 use Rattle.std.proofs.shelf.Ways.{decides-at}
 use Rattle.standards.specs.declared.class.Class.{Class}
 use Rattle.standards.specs.ClassSets.{holds}
 use Rattle.standards.specs.Gathering.{all-meet}
-use Rattle.standards.proofs.Gathered.{rule-next, finding-next, finding-last, decides-all-meet, misses-no-more}
-use Rattle.standards.proofs.Orders.{preorder}
+use Rattle.standards.proofs.Gathered.{rule-next, finding-next, finding-last, decides-all-meet, keeps-order}
 use Rattle.standards.proofs.gathering.gather.Needs as need
 
 pub loop-rule-again : need.loop-rule-again
@@ -30,8 +30,6 @@ returns g c =
     let members : (k : Class) → holds (c .loop-finding .met) k ≡ all-meet table fs k =
     λ k. finding-last table fs (c .loop-finding .finding-index) k (c .loop-finding-test .left) (c .loop-finding .inv .1 k) in
     record {
-      members = members;
-      every = λ k. decides-at _ _ (members k) (decides-all-meet table fs k);
-      law = misses-no-more table;
-      order = preorder (g .F·Finding .kind) _;
+      gathered = record { members = members; every = λ k. decides-at _ _ (members k) (decides-all-meet table fs k) };
+      law = keeps-order table;
     }

@@ -1,3 +1,4 @@
+-- What is met so far: all findings before this one, and the first rules on this one.
 use mathlib.Core.Path.{_≡_}
 use mathlib.Core.Bool.{_&&_}
 use Prim.Native.Nat.{_≤_}

@@ -1,3 +1,4 @@
+-- The lowest set digit is the best class.
 use mathlib.Core.Path.{_≡_, sym, subst, _∙_}
 use Rattle.standards.specs.Classes.{class-at, least, Least}
 use Rattle.standards.specs.ClassSets.{holds}

@@ -1,3 +1,4 @@
+-- The bits in both are those of the classes in both.
 use Rattle.standards.proofs.FiveBits.{and-bit}
 use Rattle.standards.proofs.class_set.ClassSet.both.Needs as need
 

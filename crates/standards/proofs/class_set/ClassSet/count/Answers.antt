@@ -1,3 +1,4 @@
+-- The set digits are the members.
 use Rattle.standards.proofs.FiveBits.{ones-count}
 use Rattle.standards.proofs.class_set.ClassSet.count.Needs as need
 

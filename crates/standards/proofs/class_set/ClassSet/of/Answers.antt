@@ -1,3 +1,4 @@
+-- Each bit is the test of its class.
 use Rattle.standards.proofs.FiveBits.{packed-bit, sets-by-members}
 use Rattle.standards.proofs.class_set.ClassSet.of.Needs as need
 
