@@ -2,3 +2,4 @@ pub mod Numbers
 pub mod Firsts
 pub mod Chains
 pub mod Invariant
+pub mod Items

@@ -35,6 +35,10 @@ abbrev pub Misses : {Finding : Type 0} {kind : Kind Finding} {better : Direction
 Misses table k rule None = ⊥
 Misses table k rule (Some f) = (rule < table .count) × (table .meets rule f k ≡ false)
 
+-- two items miss the same rules at each class
+abbrev pub Same-misses : {Finding : Type 0} {kind : Kind Finding} {better : Directions} → Table kind better → (x y : Option Finding) → Type 0
+Same-misses table x y = (k : Class) (rule : ℕ) → (Misses table k rule x → Misses table k rule y) × (Misses table k rule y → Misses table k rule x)
+
 -- an item meets every rule at a class
 abbrev pub Meets : {Finding : Type 0} {kind : Kind Finding} {better : Directions} → Table kind better → Class → Option Finding → Type 0
 Meets table k None = Unit {0}
@@ -75,11 +79,38 @@ module _ {Element : Type 0} (q : Terms Element) (s : Rules) where
     pub circuits : (k : Class) (rule n : ℕ) → Misses (s .circuits) k rule (circuit-item q b n) → Misses (s .circuits) k rule (circuit-item q a (circuit-partner n))
     pub whole : (k : Class) (rule : ℕ) → Misses (s .whole) k rule (Some (the-whole q b)) → Misses (s .whole) k rule (Some (the-whole q a))
 
-  -- the two miss the same, item for item, under the new numbers, and each item of the second is one of the first's
+  -- the grades are the same, and the two miss the same rules, item for item, under the new numbers; each item of the second
+  -- is one of the first's
   pub record Agree (a b : Survey) (to-leg to-circuit : ℕ → ℕ) : Type 0 where
     pub grades : grade q s a ≡ grade q s b
-    pub legs : (n : ℕ) → isSome (a .legs n) ≡ true → leg-item q b (to-leg n) ≡ leg-item q a n
+    pub legs : (n : ℕ) → isSome (a .legs n) ≡ true → Same-misses (s .legs) (leg-item q a n) (leg-item q b (to-leg n))
     pub each-leg : (m : ℕ) → isSome (b .legs m) ≡ true → (n : ℕ) × (isSome (a .legs n) ≡ true) × (to-leg n ≡ m)
-    pub circuits : (n : ℕ) → isSome (a .circuits n) ≡ true → circuit-item q b (to-circuit n) ≡ circuit-item q a n
+    pub circuits : (n : ℕ) → isSome (a .circuits n) ≡ true → Same-misses (s .circuits) (circuit-item q a n) (circuit-item q b (to-circuit n))
     pub each-circuit : (m : ℕ) → isSome (b .circuits m) ≡ true → (n : ℕ) × (isSome (a .circuits n) ≡ true) × (to-circuit n ≡ m)
-    pub whole : the-whole q b ≡ the-whole q a
+    pub whole : Same-misses (s .whole) (Some (the-whole q a)) (Some (the-whole q b))
+
+-- ---- ways
+-- an open, and the calls after it
+pub record Way (Q S : Type 0) : Type 0 where
+  pub quantity : Q
+  pub standard : S
+  pub calls : List (Call Q S)
+
+module _ {Q S Element : Type 0} (terms : Q → Terms Element) (rules : S → Rules) where
+  -- a way ends with this quantity, this standard and this survey, and grade does not refuse it
+  pub record Ends (way : Way Q S) (q : Q) (s : S) (p : Survey) : Type 0 where
+    pub held : run terms rules (opened (way .quantity) (way .standard)) (way .calls) ≡ record { quantity = q; standard = s; survey = p }
+    pub graded : first (grade-refusals (terms q) (rules s) p) ≡ None
+
+  pub record Promise : Type 0 where
+    -- Two ways that end with one quantity and one standard: if the legs and the circuits pair off one for one, the second's no
+    -- worse, then the second's class is at least as high, and what an item of the second misses, its partner misses.
+    pub no-lower : (v w : Way Q S) (q : Q) (s : S) (a b : Survey) → Ends v q s a → Ends w q s b
+        → (legs : Pairing leg-kind (rules s .directions) (leg-item (terms q) a) (leg-item (terms q) b))
+        → (circuits : Pairing circuit-kind (rules s .directions) (circuit-item (terms q) a) (circuit-item (terms q) b))
+        → No-lower (terms q) (rules s) a b (legs .back) (circuits .back)
+    -- The class is the highest at which every item meets every rule, and there is none exactly where no class is met so.
+    pub highest : (w : Way Q S) (q : Q) (s : S) (p : Survey) → Ends w q s p → Highest (terms q) (rules s) p (grade (terms q) (rules s) p .best)
+    -- If the second is the first otherwise written, the grades are the same and the misses agree.
+    pub otherwise-written : (v w : Way Q S) (q : Q) (s : S) (a b : Survey) → Ends v q s a → Ends w q s b
+        → (r : Rewriting (terms q) a b) → Agree (terms q) (rules s) a b (new-leg r) (new-circuit r)
