@@ -20,6 +20,7 @@ use Rattle.standards.specs.declared.class.Class.the-variants.{First, Second, T
 use Rattle.standards.specs.declared.«class_set».ClassSet.{ClassSet}
 use Rattle.standards.specs.Classes.{class-number, class-at, members, least, row, entry}
 use Rattle.standards.specs.ClassSets.{bit, holds, Sets-by-members}
+use Rattle.standards.proofs.Bests.{of-number}
 
 abbrev passes-below : (ℕ → Bool) → ℕ → Bool
 passes-below p zero = true
@@ -38,20 +39,16 @@ abbrev number-of : Option Class → ℕ
 number-of None = 0
 number-of (Some k) = class-number k
 
-of-number : (o : Option Class) → class-at (number-of o) ≡ o
-of-number None = refl
-of-number (Some First) = refl
-of-number (Some Second) = refl
-of-number (Some Third) = refl
-of-number (Some Fourth) = refl
-of-number (Some Fifth) = refl
+of-number-of : (o : Option Class) → class-at (number-of o) ≡ o
+of-number-of None = refl
+of-number-of (Some k) = of-number k
 
 pub zeros-least : (bits : ℕ) → bits < 32 → class-at (trailingZeros 8 bits + 1) ≡ least (bit bits)
 unfolding trailingZeros
 zeros-least bits fits =
     let same : number-of (class-at (trailingZeros 8 bits + 1)) ≡ number-of (least (bit bits)) =
     eqb-true _ _ (at-each-set (λ n. eqb (number-of (class-at (trailingZeros 8 n + 1))) (number-of (least (bit n)))) refl bits fits) in
-    sym (of-number (class-at (trailingZeros 8 bits + 1))) ∙ ap class-at same ∙ of-number (least (bit bits))
+    sym (of-number-of (class-at (trailingZeros 8 bits + 1))) ∙ ap class-at same ∙ of-number-of (least (bit bits))
 
 -- the bits of five tests
 abbrev weighed : (Class → Bool) → ℕ
