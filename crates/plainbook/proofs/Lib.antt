@@ -3,3 +3,4 @@ pub mod Firsts
 pub mod Chains
 pub mod Invariant
 pub mod Items
+pub mod NoLower
