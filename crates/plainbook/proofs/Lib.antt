@@ -4,3 +4,6 @@ pub mod Chains
 pub mod Invariant
 pub mod Items
 pub mod NoLower
+pub mod Folds
+pub mod Opposites
+pub mod Turns
