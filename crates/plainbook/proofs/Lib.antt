@@ -7,3 +7,6 @@ pub mod NoLower
 pub mod Folds
 pub mod Opposites
 pub mod Turns
+pub mod Bare
+pub mod Rewritten
+pub mod Agreement

@@ -67,6 +67,7 @@ runs-turned legs (u ∷ us) =
     one : (o : Option LegRecord) → listOf (run-of (turned-use u) o) ++ [] ≡ map turn (listOf (run-of u o))
     one None = refl
     one (Some l) = refl
+
     joint : (o : Option LegRecord) → backward (runs legs us) ++ map turn (listOf (run-of u o)) ≡ backward (listOf (run-of u o) ++ runs legs us)
     joint None = append-nil (backward (runs legs us))
     joint (Some l) = sym (backward-cons (record { leg = l; sense = u .sense }) (runs legs us))
@@ -183,9 +184,10 @@ rotated (x ∷ xs) (y ∷ ys) h e =
     let end-y = ends (y .sense) (y .leg) in
     let parts = follows-split None (x ∷ xs) (y ∷ ys) h in
     let second = subst (λ at. Follows at (y ∷ ys)) (after-some end-x xs) (parts .1) in
-    let around : begins (x .sense) (x .leg) ≡ last-node end-y ys = eqb-true _ _ e ∙ last-of end-x xs y ys in
-    (follows-join None (y ∷ ys) (x ∷ xs) (second .1) (subst (λ at. Follows at (x ∷ xs)) (sym (after-some end-y ys)) (sym around, parts .0)),
-    eq-eqb _ _ (sym (second .0) ∙ sym (last-of end-y ys x xs)))
+    let around : begins (x .sense) (x .leg) ≡ last-node end-y ys = eqb-true _ _ e ∙ last-of end-x xs y ys in (
+      follows-join None (y ∷ ys) (x ∷ xs) (second .1) (subst (λ at. Follows at (x ∷ xs)) (sym (after-some end-y ys)) (sym around, parts .0)),
+      eq-eqb _ _ (sym (second .0) ∙ sym (last-of end-y ys x xs)),
+    )
 
 -- ---- what is found
 lengths : Monoid ℕ
@@ -197,6 +199,7 @@ runnings = record { op = joined; unit = Double; assoc = assoc; comm = comm; left
     assoc : (x y z : Running) → joined (joined x y) z ≡ joined x (joined y z)
     assoc Single y z = refl
     assoc Double y z = refl
+
     comm : (x y : Running) → joined x y ≡ joined y x
     comm Single Single = refl
     comm Single Double = refl
