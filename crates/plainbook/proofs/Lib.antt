@@ -10,3 +10,4 @@ pub mod Turns
 pub mod Bare
 pub mod Rewritten
 pub mod Agreement
+pub mod Figures

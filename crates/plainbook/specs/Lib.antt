@@ -6,3 +6,4 @@ pub mod Misses
 pub mod Steps
 pub mod Rewritings
 pub mod Promise
+pub mod Figures
