@@ -32,21 +32,30 @@ fn decodes(rt: &LibcRuntime, words: &[u32], due: Option<Said>) -> Result<(), Fai
 
 #[test]
 fn layouts(rt: LibcRuntime) -> Result<(), Fail> {
-    decodes(&rt, &[], layout(0))?;
-    decodes(&rt, &[HEAD, DUE], layout(2))?;
-    decodes(&rt, &[HEAD, DUE, USE], None)?;
     // sixteen uses and seventeen
-    let mut words = [USE; 19];
-    words[0] = HEAD;
-    words[1] = DUE;
-    decodes(&rt, &words[0..18], None)?;
-    decodes(&rt, &words, layout(18))?;
-    // the due sum left out, two words exchanged, another kind among the uses
-    decodes(&rt, &[HEAD, USE, USE], layout(1))?;
-    decodes(&rt, &[DUE, HEAD, USE], layout(0))?;
-    decodes(&rt, &[HEAD, DUE, USE, 0x90000001, USE], layout(3))?;
-    // the layout is tried before the ranges
-    decodes(&rt, &[0x60000000, DUE, 0x80000000, DUE], layout(3))
+    let mut full = [USE; 18];
+    full[0] = HEAD;
+    full[1] = DUE;
+    let mut surplus = [USE; 19];
+    surplus[0] = HEAD;
+    surplus[1] = DUE;
+    let rows: [(&[u32], Option<Said>); 9] = [
+        (&[], layout(0)),
+        (&[HEAD, DUE], layout(2)),
+        (&[HEAD, DUE, USE], None),
+        (&full, None),
+        (&surplus, layout(18)),
+        // the due sum left out, two words exchanged, another kind among the uses
+        (&[HEAD, USE, USE], layout(1)),
+        (&[DUE, HEAD, USE], layout(0)),
+        (&[HEAD, DUE, USE, 0x90000001, USE], layout(3)),
+        // the layout is tried before the ranges
+        (&[0x60000000, DUE, 0x80000000, DUE], layout(3)),
+    ];
+    for (words, due) in rows {
+        decodes(&rt, words, due)?;
+    }
+    Ok(())
 }
 
 #[test]

@@ -36,15 +36,22 @@ fn decodes(rt: &LibcRuntime, words: &[u32], due: Option<Said>) -> Result<(), Fai
 #[test]
 fn layouts(rt: LibcRuntime) -> Result<(), Fail> {
     let whole = [HEAD, VALUE, LENGTH, READINGS, BACK];
-    decodes(&rt, &whole, None)?;
-    decodes(&rt, &[HEAD, VALUE, LENGTH, READINGS], None)?;
-    decodes(&rt, &[], layout(0))?;
-    decodes(&rt, &[HEAD, VALUE, LENGTH], layout(3))?;
-    decodes(&rt, &[HEAD, VALUE, LENGTH, READINGS, BACK, BACK], layout(5))?;
-    // the value left out, two words exchanged, a leg's words under a circuit's head
-    decodes(&rt, &[HEAD, LENGTH, READINGS, BACK], layout(1))?;
-    decodes(&rt, &[HEAD, VALUE, READINGS, LENGTH, BACK], layout(2))?;
-    decodes(&rt, &[0x60100000, VALUE, LENGTH, READINGS], layout(0))?;
+    let rows: [(&[u32], Option<Said>); 9] = [
+        (&whole, None),
+        (&[HEAD, VALUE, LENGTH, READINGS], None),
+        (&[], layout(0)),
+        (&[HEAD, VALUE, LENGTH], layout(3)),
+        (&[HEAD, VALUE, LENGTH, READINGS, BACK, BACK], layout(5)),
+        // the value left out, two words exchanged, a leg's words under a circuit's head
+        (&[HEAD, LENGTH, READINGS, BACK], layout(1)),
+        (&[HEAD, VALUE, READINGS, LENGTH, BACK], layout(2)),
+        (&[0x60100000, VALUE, LENGTH, READINGS], layout(0)),
+        // the layout is tried before the ranges
+        (&[0x10000402, VALUE, LENGTH], layout(3)),
+    ];
+    for (words, due) in rows {
+        decodes(&rt, words, due)?;
+    }
     // kinds 0 and 15 at each index
     for i in 0..5usize {
         for other in [0x00000001u32, 0xF0000001] {
@@ -53,8 +60,7 @@ fn layouts(rt: LibcRuntime) -> Result<(), Fail> {
             decodes(&rt, &words, layout(i as u32))?;
         }
     }
-    // the layout is tried before the ranges
-    decodes(&rt, &[0x10000402, VALUE, LENGTH], layout(3))
+    Ok(())
 }
 
 #[test]
