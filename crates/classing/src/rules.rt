@@ -1,7 +1,8 @@
 // The rules for legs in plain words: what was found, and what a class asks.
 use crate::survey::Survey;
-use crate::units::Hundredths;
-use crate::units::HundredthsDisplay;
+use crate::units::Figure;
+use crate::units::FigureDisplay;
+use crate::units::Unit;
 use standards::class::Class;
 use standards::finding::LegFinding;
 use standards::level;
@@ -20,6 +21,36 @@ pub(crate) enum LegRule {
     LeastCount,
 }
 
+// How a rule is told, and the limits that it is told with.
+#[derive(Clone, Copy)]
+struct Wording {
+    name: &'static str,
+    bound: &'static str,
+    asked: &'static str,
+    unit: Unit,
+    limits: [u16; 5],
+}
+
+fn at_least(name: &'static str, unit: Unit, limits: [u16; 5]) -> Wording {
+    Wording {
+        name,
+        bound: "at least",
+        asked: "wanted",
+        unit,
+        limits,
+    }
+}
+
+fn at_most(name: &'static str, unit: Unit, limits: [u16; 5]) -> Wording {
+    Wording {
+        name,
+        bound: "at most",
+        asked: "allowed",
+        unit,
+        limits,
+    }
+}
+
 impl LegRule {
     // The rule that a standard counts by a number, from 0.
     pub(crate) fn numbered(survey: Survey, rule: u8) -> Option<LegRule> {
@@ -35,17 +66,58 @@ impl LegRule {
         }
     }
 
-    fn limits(self) -> [u16; 5] {
+    fn wording(self) -> Wording {
         match self {
-            LegRule::Method => level::METHOD,
-            LegRule::LongestSight => level::LONGEST_SIGHT,
-            LegRule::SightDifference => level::SIGHT_DIFFERENCE,
-            LegRule::OwnMisclosure => level::OWN_MISCLOSURE,
-            LegRule::Positions => triangulation::POSITIONS,
-            LegRule::Deviation => triangulation::DEVIATION,
-            LegRule::LeastCount => triangulation::LEAST_COUNT,
+            LegRule::Method => at_least("method", Unit::Method, level::METHOD),
+            LegRule::LongestSight => at_most(
+                "longest sight",
+                Unit::Decimetre,
+                level::LONGEST_SIGHT,
+            ),
+            LegRule::SightDifference => {
+                at_most("sight difference", Unit::Decimetre, level::SIGHT_DIFFERENCE)
+            }
+            LegRule::OwnMisclosure => {
+                at_most("own misclosure", Unit::Millimetre, level::OWN_MISCLOSURE)
+            }
+            LegRule::Positions => at_least("positions", Unit::One, triangulation::POSITIONS),
+            LegRule::Deviation => {
+                at_most(
+                    "deviation of the mean",
+                    Unit::Second,
+                    triangulation::DEVIATION,
+                )
+            }
+            LegRule::LeastCount => {
+                at_most("least count", Unit::Second, triangulation::LEAST_COUNT)
+            }
         }
     }
+
+    // What the finding has that the rule is about.
+    fn found(self, finding: &LegFinding) -> u64 {
+        match self {
+            LegRule::Method | LegRule::Positions => u64::from(finding.readings.a),
+            LegRule::LongestSight | LegRule::Deviation => u64::from(finding.readings.b),
+            LegRule::SightDifference | LegRule::LeastCount => u64::from(finding.readings.c),
+            LegRule::OwnMisclosure => finding.misclosure,
+        }
+    }
+
+    // The least or the most that meets a limit.
+    fn asked(self, limit: u16, finding: &LegFinding) -> u64 {
+        match self {
+            LegRule::OwnMisclosure => misclosure_allowed(limit, finding.length.metres),
+            _ => u64::from(limit),
+        }
+    }
+}
+
+// The greatest misclosure within a limit over a length, in 0.01 mm: the whole part of the root.
+fn misclosure_allowed(limit: u16, metres: u32) -> u64 {
+    let factor = u128::from(level::MISCLOSURE_FACTOR);
+    let limit = u128::from(limit);
+    (factor * (limit * limit) * u128::from(metres)).isqrt() as u64
 }
 
 // A class that a leg misses under a rule.
@@ -56,75 +128,33 @@ pub(crate) struct LegMiss {
     pub(crate) finding: LegFinding,
 }
 
-fn method(number: u16) -> &'static str {
-    match number {
-        1 => "centre wire",
-        2 => "three-wire",
-        3 => "micrometer",
-        _ => "unknown",
-    }
-}
-
-fn hundredths(number: u16) -> Hundredths {
-    Hundredths(u128::from(number))
-}
-
-// The greatest misclosure that a limit allows over a length, in 0.01 mm.
-fn allowed(limit: u16, metres: u32) -> Hundredths {
-    let limit = u128::from(limit);
-    let square = u128::from(level::MISCLOSURE_FACTOR) * (limit * limit) * u128::from(metres);
-    Hundredths(square.isqrt())
-}
-
 pub(crate) impl fmt::Display for LegMiss as LegMissDisplay {
     fn fmt<W: fmt::Write>(&self, f: &mut fmt::Formatter<W>) -> fmt::Result {
-        let LegFinding {
-            length,
-            running: _,
-            misclosure,
-            readings,
-        } = self.finding;
-        let (a, b, c) = (readings.a, readings.b, readings.c);
-        let limit = limit(self.rule.limits(), self.class);
+        let Wording {
+            name,
+            bound,
+            asked,
+            unit,
+            limits,
+        } = self.rule.wording();
+        let limit = limit(limits, self.class);
         let class = self.class.number();
-        write!(f, "class {class} missed: ")?;
-        match self.rule {
-            LegRule::Method => {
-                let (found, wanted) = (method(u16::from(a)), method(limit));
-                write!(
-                    f,
-                    "method {a} ({found}), at least {limit} ({wanted}) wanted"
-                )
-            }
-            LegRule::LongestSight => {
-                write!(f, "longest sight {b} dm, at most {limit} dm allowed")
-            }
-            LegRule::SightDifference => {
-                write!(f, "sight difference {c} dm, at most {limit} dm allowed")
-            }
-            LegRule::OwnMisclosure => {
-                let found = Hundredths(u128::from(misclosure));
-                let (most, metres) = (allowed(limit, length.metres), length.metres);
-                write!(
-                    f,
-                    "own misclosure {found} mm, at most {most} mm allowed over {metres} m"
-                )
-            }
-            LegRule::Positions => write!(f, "positions {a}, at least {limit} wanted"),
-            LegRule::Deviation => {
-                let (found, most) = (hundredths(b), hundredths(limit));
-                write!(
-                    f,
-                    "deviation of the mean {found} seconds, at most {most} seconds allowed"
-                )
-            }
-            LegRule::LeastCount => {
-                let (found, most) = (hundredths(c), hundredths(limit));
-                write!(
-                    f,
-                    "least count {found} seconds, at most {most} seconds allowed"
-                )
-            }
+        let found = Figure {
+            amount: self.rule.found(&self.finding),
+            unit,
+        };
+        let limit = Figure {
+            amount: self.rule.asked(limit, &self.finding),
+            unit,
+        };
+        write!(
+            f,
+            "class {class} missed: {name} {found}, {bound} {limit} {asked}"
+        )?;
+        if let LegRule::OwnMisclosure = self.rule {
+            let metres = self.finding.length.metres;
+            write!(f, " over {metres} m")?;
         }
+        Ok(())
     }
 }
