@@ -1,5 +1,6 @@
 // What a call is answered.
 use crate::call::Call;
+use crate::call::Unread;
 use crate::judge::Judgment;
 use crate::judge::JudgmentDisplay;
 use crate::judge::judge;
@@ -32,20 +33,22 @@ pub(crate) enum Answer {
 }
 
 pub(crate) fn answer_to(heap: Global, text: &str) -> Answer {
-    match call(heap, text) {
+    let call = match Call::read(heap, text) {
+        Ok(call) => call,
+        Err(Unread::NotACall) => return Answer::NotACall,
+        Err(Unread::Memory) => return Answer::NoMemory,
+    };
+    match carry_out(heap, call) {
         Ok(answer) => answer,
         Err(Fault::Refused(refusal)) => Answer::Refused(refusal),
         Err(Fault::Memory) => Answer::NoMemory,
     }
 }
 
-fn call(heap: Global, text: &str) -> Result<Answer, Fault> {
-    match Call::read(heap, text)? {
-        None => Ok(Answer::NotACall),
-        Some(Call::Show(survey, words)) => show(heap, survey, words.as_slice()),
-        Some(Call::Judge(survey, words)) => Ok(Answer::Judged(
-            judge(heap, survey, words.as_slice())?,
-        )),
+fn carry_out(heap: Global, call: Call) -> Result<Answer, Fault> {
+    match call {
+        Call::Show(survey, words) => show(heap, survey, words.as_slice()),
+        Call::Judge(survey, words) => Ok(Answer::Judged(judge(heap, survey, words.as_slice())?)),
     }
 }
 

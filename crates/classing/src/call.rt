@@ -1,8 +1,7 @@
 // The calls, read from a line's text.
 use crate::survey::Survey;
-use records::refusal::Fault;
-use records::refusal::FaultFromRefused;
 use std::alloc::Global;
+use std::alloc::Refused;
 use std::str::SplitAsciiWhitespace;
 
 #[derive(Drop)]
@@ -13,35 +12,47 @@ pub(crate) enum Call {
     Judge(Survey, Vec<u32>),
 }
 
+// Why a text gave no call.
+#[derive(Clone, Copy)]
+pub(crate) enum Unread {
+    NotACall,
+    Memory,
+}
+
+pub(crate) impl<T: Drop> From<Refused<T>> for Unread as UnreadFromRefused {
+    fn from(_refused: Refused<T>) -> Unread {
+        Unread::Memory
+    }
+}
+
 impl Call {
-    // The call that a text is, if it is one.
-    pub(crate) fn read(heap: Global, text: &str) -> Result<Option<Call>, Fault> {
+    pub(crate) fn read(heap: Global, text: &str) -> Result<Call, Unread> {
         let mut words = text.split_ascii_whitespace();
-        let verb = words.next().unwrap_or("");
-        let Some(survey) = Survey::named(words.next().unwrap_or("")) else {
-            return Ok(None);
-        };
-        let Some(record) = record(heap, words)? else {
-            return Ok(None);
-        };
-        match verb {
-            "show" => Ok(Some(Call::Show(survey, record))),
-            "judge" => Ok(Some(Call::Judge(survey, record))),
-            _ => Ok(None),
+        match words.next() {
+            Some("show") => {
+                let survey = survey(&mut words)?;
+                Ok(Call::Show(survey, record(heap, words)?))
+            }
+            Some("judge") => {
+                let survey = survey(&mut words)?;
+                Ok(Call::Judge(survey, record(heap, words)?))
+            }
+            _ => Err(Unread::NotACall),
         }
     }
 }
 
-// The words of a record, if each is one.
-fn record(heap: Global, texts: SplitAsciiWhitespace<'_>) -> Result<Option<Vec<u32>>, Fault> {
+fn survey(words: &mut SplitAsciiWhitespace<'_>) -> Result<Survey, Unread> {
+    Survey::named(words.next().unwrap_or("")).ok_or(Unread::NotACall)
+}
+
+// The words of a record: all that are left.
+fn record(heap: Global, texts: SplitAsciiWhitespace<'_>) -> Result<Vec<u32>, Unread> {
     let mut words = Vec::new(heap);
     for text in texts {
-        let Some(word) = word(text) else {
-            return Ok(None);
-        };
-        words.push(word)?;
+        words.push(word(text).ok_or(Unread::NotACall)?)?;
     }
-    Ok(Some(words))
+    Ok(words)
 }
 
 // A word in hexadecimal: one to eight digits, and nothing else.
