@@ -10,3 +10,4 @@ pub mod Forms
 pub mod Acceptance
 pub mod Level
 pub mod Triangulation
+pub mod Observed

@@ -21,26 +21,26 @@ pub struct LevelStandard;
 
 // The limits of classes 1 to 5: sights in decimetres, misclosures and closures in millimetres for the root of the length
 // in kilometres, lengths in metres.
-const METHOD: [u16; 5] = [3, 3, 2, 2, 1];
+pub const METHOD: [u16; 5] = [3, 3, 2, 2, 1];
 
-const LONGEST_SIGHT: [u16; 5] = [500, 600, 600, 700, 900];
+pub const LONGEST_SIGHT: [u16; 5] = [500, 600, 600, 700, 900];
 
-const SIGHT_DIFFERENCE: [u16; 5] = [40, 100, 100, 100, 100];
+pub const SIGHT_DIFFERENCE: [u16; 5] = [40, 100, 100, 100, 100];
 
-const OWN_MISCLOSURE: [u16; 5] = [3, 4, 6, 8, 12];
+pub const OWN_MISCLOSURE: [u16; 5] = [3, 4, 6, 8, 12];
 
-const CLOSURE: [u16; 5] = [4, 5, 6, 8, 12];
+pub const CLOSURE: [u16; 5] = [4, 5, 6, 8, 12];
 
-const SUMMED_MISCLOSURE: [u16; 5] = [3, 4, 6, 8, 12];
+pub const SUMMED_MISCLOSURE: [u16; 5] = [3, 4, 6, 8, 12];
 
 // where 0 is never: no length is less
-const SINGLE_LENGTH: [u16; 5] = [0, 0, 0, 25_000, 10_000];
+pub const SINGLE_LENGTH: [u16; 5] = [0, 0, 0, 25_000, 10_000];
 
 // Sizes in 0.01 mm and lengths in metres bring a factor of 10 to the squares. A closure sums doubled height differences, which
 // makes it four times that.
-const MISCLOSURE_FACTOR: u8 = 10;
+pub const MISCLOSURE_FACTOR: u8 = 10;
 
-const CLOSURE_FACTOR: u8 = 40;
+pub const CLOSURE_FACTOR: u8 = 40;
 
 const LONGEST: u32 = 50_000;
 

@@ -6,5 +6,6 @@ pub mod finding;
 pub mod gathering;
 pub mod level;
 pub mod limits;
+pub mod observed;
 pub mod standard;
 pub mod triangulation;

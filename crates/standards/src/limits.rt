@@ -1,10 +1,24 @@
 // Numbers held against a row of a table: a limit for each class, from class 1 to class 5.
 ghost use mathlib.Core.Path.{_≡_};
 ghost use Prim.Native.Nat.{_*_};
-ghost use Rattle.standards.specs.declared.class.Class.{Class};
 ghost use Rattle.standards.specs.ClassSets.{holds};
-ghost use Rattle.standards.specs.Limits.{at-least, at-most, at-most-each, square-at-most, less};
+ghost use Rattle.standards.specs.Limits.{limit, at-least, at-most, at-most-each, square-at-most, less};
+use crate::class::Class;
 use crate::class_set::ClassSet;
+
+// The limit of a class.
+pub fn limit(limits: [u16; 5], class: Class) -> u16
+    ensures { λ r. ⌜ r ≡ limit limits class ⌝ }
+{
+    let [first, second, third, fourth, fifth] = limits;
+    match class {
+        Class::First => first,
+        Class::Second => second,
+        Class::Third => third,
+        Class::Fourth => fourth,
+        Class::Fifth => fifth,
+    }
+}
 
 pub fn at_least(value: u8, limits: [u16; 5]) -> ClassSet
     ensures { λ r. ⌜ ((k : Class) → holds r k ≡ at-least value limits k) ⌝ }

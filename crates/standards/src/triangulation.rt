@@ -18,15 +18,15 @@ use records::leg::Readings;
 pub struct TriangulationStandard;
 
 // The limits of classes 1 to 5; all but the positions in 0.01 seconds of arc.
-const POSITIONS: [u16; 5] = [16, 16, 12, 4, 2];
+pub const POSITIONS: [u16; 5] = [16, 16, 12, 4, 2];
 
-const DEVIATION: [u16; 5] = [40, 50, 80, 120, 200];
+pub const DEVIATION: [u16; 5] = [40, 50, 80, 120, 200];
 
-const LEAST_COUNT: [u16; 5] = [20, 20, 100, 100, 100];
+pub const LEAST_COUNT: [u16; 5] = [20, 20, 100, 100, 100];
 
-const CLOSURE: [u16; 5] = [300, 300, 500, 500, 1000];
+pub const CLOSURE: [u16; 5] = [300, 300, 500, 500, 1000];
 
-const AVERAGE_CLOSURE: [u16; 5] = [100, 120, 200, 300, 500];
+pub const AVERAGE_CLOSURE: [u16; 5] = [100, 120, 200, 300, 500];
 
 const TRIANGLE: u8 = 3;
 
