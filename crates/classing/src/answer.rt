@@ -67,6 +67,7 @@ fn part(refusal: &Refusal) -> &'static str {
         Part::Words => "words",
         Part::Quantity => "quantity",
         Part::Standard => "standard",
+        Part::Book => "book",
     }
 }
 
@@ -77,6 +78,15 @@ fn reason(refusal: &Refusal) -> &'static str {
         Reason::Measure => "the value, the back value or the due sum is not accepted",
         Reason::Observation => "the length or the readings are not accepted",
         Reason::Form => "the form of the circuit is not accepted",
+        Reason::Taken => "the number already stands",
+        Reason::Absent => "the number does not stand",
+        Reason::InUse => "a standing circuit uses the leg",
+        Reason::Twice => "the leg is named twice",
+        Reason::Broken => "the leg does not begin where the one before it ended",
+        Reason::NoLeg => "no leg stands",
+        Reason::Loose => "no standing circuit uses the leg",
+        Reason::NoClass => "the class is not 1 to 5",
+        Reason::TooFew => "fewer words than misses",
     }
 }
 

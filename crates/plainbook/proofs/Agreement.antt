@@ -14,7 +14,8 @@ use Rattle.standards.specs.Classes.{members, least}
 use Rattle.standards.specs.NoWorse.{Kind, No-worse, leg-kind, circuit-kind}
 use Rattle.standards.specs.Rules.{Rules, Table}
 use Rattle.standards.proofs.Orders.{preorder}
-use Rattle.plainbook.specs.Findings.{leg-finding, circuit-finding, the-whole}
+use Rattle.standards.specs.Observed.{leg-finding}
+use Rattle.plainbook.specs.Findings.{circuit-finding, the-whole}
 use Rattle.plainbook.specs.Grades.{Grade, class-bits, met, grade}
 use Rattle.plainbook.specs.Promise.{Misses, Same-misses, Pairing, Earned, Agree, Way, Ends, Promise, leg-item, circuit-item}
 use Rattle.plainbook.specs.Rewritings.{Rewriting, new-leg, new-circuit}

@@ -19,7 +19,8 @@ use Rattle.standards.specs.Gathering.{meets-first, all-meet}
 use Rattle.standards.specs.NoWorse.{Kind}
 use Rattle.standards.specs.Rules.{Rules, Table}
 use Rattle.standards.proofs.Bests.{least-is}
-use Rattle.plainbook.specs.Findings.{leg-finding, circuit-finding, leg-findings, circuit-findings, the-whole}
+use Rattle.standards.specs.Observed.{leg-finding}
+use Rattle.plainbook.specs.Findings.{circuit-finding, leg-findings, circuit-findings, the-whole}
 use Rattle.plainbook.specs.Grades.{met, grade}
 use Rattle.plainbook.specs.Promise.{Meets, Earned, Highest, leg-item, circuit-item}
 use Rattle.plainbook.specs.Surveys.{Survey, standing, leg-numbers, circuit-numbers}

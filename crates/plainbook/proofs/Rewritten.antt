@@ -13,7 +13,8 @@ use Rattle.std.proofs.shelf.Tests.{cases-eq}
 use Rattle.records.specs.Circuits.{CircuitRecord, UseRecord}
 use Rattle.records.specs.Legs.{LegRecord}
 use Rattle.quantities.specs.Terms.{Terms}
-use Rattle.plainbook.specs.Findings.{leg-finding, circuit-finding, runs-finding}
+use Rattle.standards.specs.Observed.{leg-finding}
+use Rattle.plainbook.specs.Findings.{circuit-finding, runs-finding}
 use Rattle.plainbook.specs.Promise.{leg-item, circuit-item}
 use Rattle.plainbook.specs.Rewritings.{renumbered-leg, renumbered-circuit, renamed-circuit, One-for-one, Legs-renumbered, Circuits-renumbered, Circuit-rewritten, with-legs, turned, turned-use, Rewriting, legs-renumbered, circuits-renumbered, begun-elsewhere, turned-round, and-then, new-leg, new-circuit}
 use Rattle.plainbook.specs.Surveys.{Survey, runs, closed}

@@ -14,6 +14,7 @@ use Rattle.standards.specs.declared.finding.CircuitFinding.{CircuitFinding}
 use Rattle.standards.specs.declared.finding.Form.{Form}
 use Rattle.standards.specs.declared.finding.LegFinding.{LegFinding}
 use Rattle.standards.specs.declared.finding.WholeFinding.{WholeFinding}
+use Rattle.standards.specs.Observed.{leg-finding}
 use Rattle.plainbook.specs.Surveys.{Survey, Run, runs, standing, closed, leg-numbers, circuit-numbers}
 
 -- ---- a circuit's legs together
@@ -48,15 +49,6 @@ module _ {Element : Type 0} (q : Terms Element) where
 
   abbrev pub summed-misclosure : List Run → Element
   summed-misclosure rs = total q (map (λ r. own-misclosure (r .leg)) rs)
-
-  abbrev pub leg-finding : LegRecord → LegFinding
-  leg-finding l =
-      record {
-        length = l .length;
-        running = running (l .back);
-        misclosure = q .size (own-misclosure l);
-        readings = l .readings;
-      }
 
   -- the size of the closure, 0 where the circuit is open
   abbrev pub closure-size : List Run → (due : ℕ) → ℕ

@@ -11,7 +11,8 @@ use Rattle.standards.specs.declared.finding.Directions.{Directions}
 use Rattle.standards.specs.Classes.{class-number}
 use Rattle.standards.specs.NoWorse.{Kind}
 use Rattle.standards.specs.Rules.{Rules, Table}
-use Rattle.plainbook.specs.Findings.{leg-finding, circuit-finding, the-whole}
+use Rattle.standards.specs.Observed.{leg-finding}
+use Rattle.plainbook.specs.Findings.{circuit-finding, the-whole}
 use Rattle.plainbook.specs.Surveys.{Survey, leg-numbers, circuit-numbers}
 
 -- the kind of a miss, and where an item stands

@@ -15,7 +15,8 @@ use Rattle.standards.specs.declared.finding.LegFinding.{LegFinding}
 use Rattle.standards.specs.Classes.{class-number}
 use Rattle.standards.specs.NoWorse.{Kind, No-worse, leg-kind, circuit-kind}
 use Rattle.standards.specs.Rules.{Rules, Table}
-use Rattle.plainbook.specs.Findings.{leg-finding, circuit-finding, the-whole}
+use Rattle.standards.specs.Observed.{leg-finding}
+use Rattle.plainbook.specs.Findings.{circuit-finding, the-whole}
 use Rattle.plainbook.specs.Grades.{Grade, grade}
 use Rattle.plainbook.specs.Refusals.{grade-refusals}
 use Rattle.plainbook.specs.Rewritings.{Rewriting, new-leg, new-circuit}
