@@ -1,0 +1,2 @@
+// The book.
+mod misses;
