@@ -23,6 +23,7 @@ use Rattle.plainbook.specs.Steps.{Held, opened, run, empty}
 use Rattle.plainbook.specs.Surveys.{Survey}
 use Rattle.plainbook.proofs.Invariant.{Sound, empty-sound, run-sound}
 use Rattle.plainbook.proofs.Items.{earned, gained, highest}
+use Rattle.plainbook.proofs.Listing.{listed}
 use Rattle.plainbook.proofs.NoLower.{some-is, no-lower, earned-too}
 use Rattle.plainbook.proofs.Rewritten.{Same, Matched, matched, fit}
 
@@ -140,5 +141,6 @@ module _ {Q S Element : Type 0} (terms : Q → Terms Element) (rules : S → Rul
       record {
         no-lower = λ v w q s a b ea eb legs circuits. no-lower (terms q) (rules s) a b (sound-end v q s a ea) (sound-end w q s b eb) legs circuits;
         highest = λ w q s p e. highest (terms q) (rules s) p (sound-end w q s p e);
+        listed = λ w q s p e k. listed (terms q) (rules s) p (sound-end w q s p e) k;
         otherwise-written = λ v w q s a b ea eb r. agree (terms q) (rules s) a b (sound-end v q s a ea) (sound-end w q s b eb) r;
       }

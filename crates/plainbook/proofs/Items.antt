@@ -23,9 +23,9 @@ use Rattle.standards.specs.Observed.{leg-finding}
 use Rattle.plainbook.specs.Findings.{circuit-finding, leg-findings, circuit-findings, the-whole}
 use Rattle.plainbook.specs.Grades.{met, grade}
 use Rattle.plainbook.specs.Promise.{Meets, Earned, Highest, leg-item, circuit-item}
-use Rattle.plainbook.specs.Surveys.{Survey, standing, leg-numbers, circuit-numbers}
+use Rattle.plainbook.specs.Surveys.{In, Survey, standing, leg-numbers, circuit-numbers}
 use Rattle.plainbook.proofs.Invariant.{Sound}
-use Rattle.plainbook.proofs.Numbers.{In, leg-numbered, circuit-numbered}
+use Rattle.plainbook.proofs.Numbers.{leg-numbered, circuit-numbered}
 
 pub map-standing : {X Y : Type 0} (f : X → Y) (g : ℕ → Option X) (ns : List ℕ) → map f (standing g ns) ≡ standing (λ n. mapped f (g n)) ns
 map-standing f g [] = refl

@@ -4,6 +4,7 @@ pub mod Chains
 pub mod Invariant
 pub mod Items
 pub mod NoLower
+pub mod Listing
 pub mod Folds
 pub mod Opposites
 pub mod Turns

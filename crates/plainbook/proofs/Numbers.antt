@@ -11,11 +11,7 @@ use Rattle.std.specs.Iters.{counting}
 use Rattle.std.proofs.shelf.Tests.{cases-eq, cases-bool}
 use Rattle.records.specs.Ranges.{between, is-leg-number, is-circuit-number}
 use Rattle.records.proofs.Ranges.{upto, from}
-use Rattle.plainbook.specs.Surveys.{leg-numbers, circuit-numbers, first-number}
-
-abbrev pub In : ℕ → List ℕ → Type 0
-In n [] = ⊥
-In n (m ∷ ms) = (n ≡ m) ⊎ In n ms
+use Rattle.plainbook.specs.Surveys.{In, leg-numbers, circuit-numbers, first-number}
 
 abbrev pub Distinct : List ℕ → Type 0
 Distinct [] = Unit {0}

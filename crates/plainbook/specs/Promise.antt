@@ -2,7 +2,8 @@
 use mathlib.Core.Path.{_≡_}
 use mathlib.Core.Bool.{true, false}
 use mathlib.Core.List.{List}
-use Prim.Native.Nat.{ℕ, _≤_, _<_}
+use mathlib.Core.Logic.{_⊎_}
+use Prim.Native.Nat.{ℕ, suc, _≤_, _<_}
 use Rattle.std.specs.declared.option.Option.{Option}
 use Rattle.std.specs.declared.option.Option.the-variants.{Some, None}
 use Rattle.std.specs.Options.{isSome, mapped}
@@ -18,10 +19,11 @@ use Rattle.standards.specs.Rules.{Rules, Table}
 use Rattle.standards.specs.Observed.{leg-finding}
 use Rattle.plainbook.specs.Findings.{circuit-finding, the-whole}
 use Rattle.plainbook.specs.Grades.{Grade, grade}
+use Rattle.plainbook.specs.Misses.{miss-word, survey-misses, leg-place, circuit-place, whole-place}
 use Rattle.plainbook.specs.Refusals.{grade-refusals}
 use Rattle.plainbook.specs.Rewritings.{Rewriting, new-leg, new-circuit}
 use Rattle.plainbook.specs.Steps.{Held, Call, opened, run}
-use Rattle.plainbook.specs.Surveys.{Survey}
+use Rattle.plainbook.specs.Surveys.{Survey, In}
 
 -- ---- items: the finding of what stands at a number, if anything does
 module _ {Element : Type 0} (q : Terms Element) (p : Survey) where
@@ -73,6 +75,16 @@ module _ {Element : Type 0} (q : Terms Element) (s : Rules) where
   Highest p None = (k : Class) → Earned p k → ⊥
   Highest p (Some best) = Earned p best × ((k : Class) → Earned p k → class-number best ≤ class-number k)
 
+  -- the word of a miss is listed for each rule that an item misses, and no other word is
+  pub record Listed (p : Survey) (k : Class) : Type 0 where
+    pub legs : (n rule : ℕ) → Misses (s .legs) k rule (leg-item q p n) → In (miss-word k leg-place (suc rule) n) (survey-misses q s p k)
+    pub circuits : (n rule : ℕ) → Misses (s .circuits) k rule (circuit-item q p n) → In (miss-word k circuit-place (suc rule) n) (survey-misses q s p k)
+    pub whole : (rule : ℕ) → Misses (s .whole) k rule (Some (the-whole q p)) → In (miss-word k whole-place (suc rule) 0) (survey-misses q s p k)
+    pub no-other : (w : ℕ) → In w (survey-misses q s p k)
+        → ((n : ℕ) × (rule : ℕ) × Misses (s .legs) k rule (leg-item q p n) × (w ≡ miss-word k leg-place (suc rule) n))
+        ⊎ (((n : ℕ) × (rule : ℕ) × Misses (s .circuits) k rule (circuit-item q p n) × (w ≡ miss-word k circuit-place (suc rule) n))
+        ⊎ ((rule : ℕ) × Misses (s .whole) k rule (Some (the-whole q p)) × (w ≡ miss-word k whole-place (suc rule) 0)))
+
   -- what an item of the second survey misses, its partner misses, and the second's class is at least as high
   pub record No-lower (a b : Survey) (leg-partner circuit-partner : ℕ → ℕ) : Type 0 where
     pub class : At-least (grade q s b .best) (grade q s a .best)
@@ -112,6 +124,8 @@ module _ {Q S Element : Type 0} (terms : Q → Terms Element) (rules : S → Rul
         → No-lower (terms q) (rules s) a b (legs .back) (circuits .back)
     -- The class is the highest at which every item meets every rule, and there is none exactly where no class is met so.
     pub highest : (w : Way Q S) (q : Q) (s : S) (p : Survey) → Ends w q s p → Highest (terms q) (rules s) p (grade (terms q) (rules s) p .best)
+    -- The words that misses writes are those of the rules that items miss.
+    pub listed : (w : Way Q S) (q : Q) (s : S) (p : Survey) → Ends w q s p → (k : Class) → Listed (terms q) (rules s) p k
     -- If the second is the first otherwise written, the grades are the same and the misses agree.
     pub otherwise-written : (v w : Way Q S) (q : Q) (s : S) (a b : Survey) → Ends v q s a → Ends w q s b
         → (r : Rewriting (terms q) a b) → Agree (terms q) (rules s) a b (new-leg r) (new-circuit r)

@@ -2,6 +2,7 @@
 use mathlib.Core.Path.{_≡_}
 use mathlib.Core.Bool.{Bool, true, false, cond, not, _&&_, _||_}
 use mathlib.Core.List.{List, [], _∷_, _++_}
+use mathlib.Core.Logic.{_⊎_}
 use Prim.Native.Nat.{ℕ, suc}
 use lib.Dec.{eqb}
 use lib.ListN.{length}
@@ -26,6 +27,11 @@ leg-numbers = counting 1 128
 
 unfoldable pub circuit-numbers : List ℕ
 circuit-numbers = counting 1 32
+
+-- a number is in a list
+abbrev pub In : ℕ → List ℕ → Type 0
+In n [] = ⊥
+In n (m ∷ ms) = (n ≡ m) ⊎ In n ms
 
 -- what stands at the numbers given, in their order
 abbrev pub standing : {X : Type 0} → (ℕ → Option X) → List ℕ → List X

@@ -34,7 +34,7 @@ put-put at new more ws h =
     let long : length front ≡ n = length-append (take at ws) new ∙ ap (λ m. m + length new) (length-take-le at ws low) in
     let parts : put at new ws ≡ front ++ drop n ws = sym (append-assoc (take at ws) new (drop n ws)) in
     let rest : drop (n + length more) (front ++ drop n ws) ≡ drop (n + length more) ws =
-        sym (drop-drop (length more) n (front ++ drop n ws)) ∙ ap (drop (length more)) (drop-at front (drop n ws) n long) ∙ drop-drop (length more) n ws in
+    sym (drop-drop (length more) n (front ++ drop n ws)) ∙ ap (drop (length more)) (drop-at front (drop n ws) n long) ∙ drop-drop (length more) n ws in
     let total : n + length more ≡ at + length (new ++ more) = omega (arith, length-append new more) in
     ap (put n more) parts
     ∙ ap₂ (λ xs ys. xs ++ (more ++ ys)) (take-at front (drop n ws) n long) rest

@@ -34,11 +34,19 @@ fn miss_word(class: Class, place: Place, rule: u8, item: u8) -> u32
     requires { ⌜ rule < 255 ⌝ }
     ensures { λ r. ⌜ r ≡ miss-word class (place-number place) (suc rule) item ⌝ }
 {
-    (12 << 28) + ((class.number() as u32) << 24) + (place.number() << 20) + ((rule as u32 + 1) << 12) + item as u32
+    (12 << 28)
+        + ((class.number() as u32) << 24)
+        + (place.number() << 20)
+        + ((rule as u32 + 1) << 12)
+        + item as u32
 }
 
 // How many rules the finding misses at the class: as many as there are words, wherever the item stands.
-pub(crate) fn count_misses<S: Standard, F: Finding>(standard: &S, class: Class, finding: &F) -> usize
+pub(crate) fn count_misses<S: Standard, F: Finding>(
+    standard: &S,
+    class: Class,
+    finding: &F,
+) -> usize
     ensures count { λ r. ⌜ ((place item : ℕ) → r ≡ length (item-misses (F·Finding .table (S·Standard .meaning (now (standard .entry)))) class place item (Some (now (finding .entry))))) ⌝ }
     ensures few { λ r. ⌜ r ≤ 255 ⌝ }
 {

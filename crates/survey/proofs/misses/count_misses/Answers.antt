@@ -14,16 +14,18 @@ loop-rule-again g c =
     let rule = c .loop-rule .rule in
     let here : rule < table .count = omega (arith, c .rules-rule-end .ensures, c .loop-rule-test .taken) in
     elim (c .if-not-contains .came) [
-      | then-not-contains w ↦
-        (omega (arith, w .count-is),
+      | then-not-contains w ↦ (
+        omega (arith, w .count-is),
         λ place item.
-        let step = ap length (next-missed table k place item f rule here (sym (c .classes .ensures k) ∙ sym (c .contains .ensures) ∙ w .if-not-contains .taken)) in
-        omega (arith, step, w .count-is, c .loop-rule .inv .1 place item))
-      | else-not-contains w ↦
-        (omega (arith, w .count-is),
+            let step = ap length (next-missed table k place item f rule here (sym (c .classes .ensures k) ∙ sym (c .contains .ensures) ∙ w .if-not-contains .taken)) in
+            omega (arith, step, w .count-is, c .loop-rule .inv .1 place item),
+      )
+      | else-not-contains w ↦ (
+        omega (arith, w .count-is),
         λ place item.
-        let step = ap length (next-met table k place item f rule here (sym (c .classes .ensures k) ∙ sym (c .contains .ensures) ∙ w .if-not-contains .left)) in
-        omega (arith, step, w .count-is, c .loop-rule .inv .1 place item))
+            let step = ap length (next-met table k place item f rule here (sym (c .classes .ensures k) ∙ sym (c .contains .ensures) ∙ w .if-not-contains .left)) in
+            omega (arith, step, w .count-is, c .loop-rule .inv .1 place item),
+      )
     ]
 
 pub returns : need.returns
@@ -33,7 +35,9 @@ returns g c =
     let f = c .args .finding .now in
     let rule = c .loop-rule .rule in
     let past : table .count ≤ rule = omega (arith, c .rules-rule-end .ensures, c .loop-rule-test .left) in
-    record { count =
-               λ place item.
-               omega (arith, c .loop-rule .inv .1 place item, ap length (none-left table k place item f rule past), ap length (all-left table k place item f))
-           ; few = omega (arith, c .loop-rule .inv .0, c .loop-rule .kept .rule-end, c .rules-rule-end .ok) }
+    record {
+      count =
+          λ place item.
+          omega (arith, c .loop-rule .inv .1 place item, ap length (none-left table k place item f rule past), ap length (all-left table k place item f));
+      few = omega (arith, c .loop-rule .inv .0, c .loop-rule .kept .rule-end, c .rules-rule-end .ok);
+    }
