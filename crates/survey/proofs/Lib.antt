@@ -1,0 +1,7 @@
+pub mod Tables
+pub mod Picks
+pub mod Orders
+pub mod Using
+pub mod Outcomes
+pub mod Soundness
+pub mod Strikes

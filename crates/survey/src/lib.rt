@@ -1,0 +1,3 @@
+// The survey's book: legs and circuits entered, struck and graded, each call equal to the plain book's step.
+pub mod book;
+pub mod grade;
