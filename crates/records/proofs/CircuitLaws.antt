@@ -128,7 +128,7 @@ module _ (c : CircuitRecord) (hn : is-circuit-number (c .number) ≡ true) (hd :
       λ i. record { number = number i; due = due i; legs = legs i }
 
   given : circuit-decoded (circuit-words c) ≡ Ok c
-  given = circuit-taken (circuit-words c) laid-out first-ranged (uses-ranged 2 (c .legs) fit) ∙ ap Ok read-back
+  given = circuit-taken (circuit-words c) laid-out (circuit-read (circuit-words c)) first-ranged (uses-ranged 2 (c .legs) fit) ∙ ap Ok read-back
 
 there : (c : CircuitRecord) → circuit-fits c ≡ true → circuit-decoded (circuit-words c) ≡ Ok c
 there c e =

@@ -26,7 +26,7 @@ use Rattle.records.specs.Refusals.{refusal, first, unless}
 use Rattle.records.specs.Words.{bits, payload}
 use Rattle.records.proofs.Lowest.{From, passed, stopped, from-zero}
 use Rattle.records.proofs.Layouts.{next, no-more, refused-at}
-use Rattle.records.specs.Circuits.{CircuitRecord, circuit-read, circuit-decoded, circuit-unranged, head-ranged, use-word, Unranged, Least-unranged, UseRecord, use-record, use-read, use-ranged, use-unranged}
+use Rattle.records.specs.Circuits.{CircuitRecord, circuit-read, circuit-refusals, circuit-unranged, head-ranged, use-word, Unranged, Least-unranged, UseRecord, use-record, use-read, use-ranged, use-unranged}
 
 -- a use is read just where it is in range
 pub read-some : (o : Option LegUse) (b : Bool) (u : UseRecord) → mapped use-record o ≡ cond b (Some u) None → isSome o ≡ b
@@ -65,25 +65,28 @@ read-more us us′ u ws i d l pushed before here =
     ap (map use-record) pushed ∙ map-push use-record us u ∙ ap₂ (λ xs x. xs ++ (x ∷ [])) before here ∙ sym (map-more use-read ws i d l)
 
 -- ---- what is made of the words
-module _ (ws : List ℕ) where
-  tried : (m u : Option ℕ) → misplaced 0 circuit-layout ws ≡ m → circuit-unranged ws ≡ u →
-      circuit-decoded ws ≡ unless (first (refusal Layout m ∷ refusal Range u ∷ [])) (circuit-read ws)
-  tried m u p q = ap₂ (λ m u. unless (first (refusal Layout m ∷ refusal Range u ∷ [])) (circuit-read ws)) p q
+abbrev pub given : {A : Type 0} → A → List ℕ → Result A Refusal
+given answer ws = unless (first (circuit-refusals ws)) answer
 
-  pub layout-refused : (e : Refusal) → _≡_ {A = Result (Unit {0}) Refusal} (Err e) (unless (refusal Layout (misplaced 0 circuit-layout ws)) tt) → circuit-decoded ws ≡ Err e
-  layout-refused e h = let at = refused-at Layout _ e h in tried _ _ (at .1) refl ∙ ap Err (sym (at .2))
+module _ (ws : List ℕ) where
+  tried : {A : Type 0} (answer : A) (m u : Option ℕ) → misplaced 0 circuit-layout ws ≡ m → circuit-unranged ws ≡ u →
+      given answer ws ≡ unless (first (refusal Layout m ∷ refusal Range u ∷ [])) answer
+  tried answer m u p q = ap₂ (λ m u. unless (first (refusal Layout m ∷ refusal Range u ∷ [])) answer) p q
+
+  pub layout-refused : {A : Type 0} (answer : A) (e : Refusal) → _≡_ {A = Result (Unit {0}) Refusal} (Err e) (unless (refusal Layout (misplaced 0 circuit-layout ws)) tt) → given answer ws ≡ Err e
+  layout-refused answer e h = let at = refused-at Layout _ e h in tried answer _ _ (at .1) refl ∙ ap Err (sym (at .2))
 
   module _ (laid : misplaced 0 circuit-layout ws ≡ None) where
-    pub head-refused : head-ranged (getD ws 0 0) ≡ false → circuit-decoded ws ≡ Err (record { reason = Range; place = 0 })
-    head-refused h = tried _ _ laid (ap (λ b. cond b (use-unranged 2 (drop 2 ws)) (Some 0)) h)
+    pub head-refused : {A : Type 0} (answer : A) → head-ranged (getD ws 0 0) ≡ false → given answer ws ≡ Err (record { reason = Range; place = 0 })
+    head-refused answer h = tried answer _ _ laid (ap (λ b. cond b (use-unranged 2 (drop 2 ws)) (Some 0)) h)
 
-    pub uses-refused : (e : Refusal) → head-ranged (getD ws 0 0) ≡ true → _≡_ {A = Result (Unit {0}) Refusal} (Err e) (unless (refusal Range (use-unranged 2 (drop 2 ws))) tt) → circuit-decoded ws ≡ Err e
-    uses-refused e h r =
+    pub uses-refused : {A : Type 0} (answer : A) (e : Refusal) → head-ranged (getD ws 0 0) ≡ true → _≡_ {A = Result (Unit {0}) Refusal} (Err e) (unless (refusal Range (use-unranged 2 (drop 2 ws))) tt) → given answer ws ≡ Err e
+    uses-refused answer e h r =
         let at = refused-at Range _ e r in
-        tried _ _ laid (ap (λ b. cond b (use-unranged 2 (drop 2 ws)) (Some 0)) h ∙ at .1) ∙ ap Err (sym (at .2))
+        tried answer _ _ laid (ap (λ b. cond b (use-unranged 2 (drop 2 ws)) (Some 0)) h ∙ at .1) ∙ ap Err (sym (at .2))
 
-    pub circuit-taken : head-ranged (getD ws 0 0) ≡ true → use-unranged 2 (drop 2 ws) ≡ None → circuit-decoded ws ≡ Ok (circuit-read ws)
-    circuit-taken h u = tried _ _ laid (ap (λ b. cond b (use-unranged 2 (drop 2 ws)) (Some 0)) h ∙ u)
+    pub circuit-taken : {A : Type 0} (answer : A) → head-ranged (getD ws 0 0) ≡ true → use-unranged 2 (drop 2 ws) ≡ None → given answer ws ≡ Ok answer
+    circuit-taken answer h u = tried answer _ _ laid (ap (λ b. cond b (use-unranged 2 (drop 2 ws)) (Some 0)) h ∙ u)
 
     pub read-uses : use-unranged 2 (take (length ws - 2) (drop 2 ws)) ≡ use-unranged 2 (drop 2 ws)
     read-uses = ap (use-unranged 2) (take-rest ws 2)
@@ -152,3 +155,24 @@ least-unranged ws = go (head-ranged (getD ws 0 0)) refl
         let r = use-unranged 2 (drop 2 ws) in
         from-zero (Unranged ws) r (passed 0 (Unranged ws) r (λ h. both-ways (head-ranged (getD ws 0 0)) h e) (passed 1 (λ k. Unranged ws (suc k)) r (λ h. h) (lowest-use 2 (drop 2 ws))))
     go false e = from-zero (Unranged ws) (Some 0) (stopped 0 (Unranged ws) e)
+
+-- ---- words whose head was given
+head-none : (b : Bool) (u : Option ℕ) → cond b u (Some 0) ≡ None → u ≡ None
+head-none true u e = e
+head-none false u e = cc
+
+pub head-laid : (ws : List ℕ) → first (circuit-refusals ws) ≡ None → (misplaced 0 circuit-layout ws ≡ None) × (use-unranged 2 (drop 2 ws) ≡ None)
+head-laid ws e = go (misplaced 0 circuit-layout ws) (circuit-unranged ws) refl refl e
+  where
+    go : (m u : Option ℕ) → misplaced 0 circuit-layout ws ≡ m → circuit-unranged ws ≡ u → first (refusal Layout m ∷ refusal Range u ∷ []) ≡ None → (misplaced 0 circuit-layout ws ≡ None) × (use-unranged 2 (drop 2 ws) ≡ None)
+    go None None p q h = (p, head-none (head-ranged (getD ws 0 0)) _ q)
+    go None (Some i) p q h = let z : _≡_ {A = ℕ} 0 1 = cc in absurd (omega arith)
+    go (Some i) u p q h = let z : _≡_ {A = ℕ} 0 1 = cc in absurd (omega arith)
+
+pub seen-err : {B : Type 0} (o : Option Refusal) (answer : B) (e : Refusal) → Err e ≡ unless o answer → o ≡ Some e
+seen-err None answer e h = let z : _≡_ {A = ℕ} 0 1 = cc in absurd (omega arith)
+seen-err (Some r) answer e h = cc
+
+pub seen-ok : {B : Type 0} (o : Option Refusal) (answer a : B) → Ok a ≡ unless o answer → (o ≡ None) × (a ≡ answer)
+seen-ok None answer a h = (refl, cc)
+seen-ok (Some r) answer a h = let z : _≡_ {A = ℕ} 0 1 = cc in absurd (omega arith)

@@ -13,6 +13,7 @@ use Rattle.std.specs.Of.Vec.{vec-items}
 use Rattle.std.specs.Options.{Cases}
 use Rattle.std.specs.shelf.Maps.{nth}
 use Rattle.records.specs.declared.circuit.Circuit.{Circuit}
+use Rattle.records.specs.declared.circuit.Head.{Head}
 use Rattle.records.specs.declared.circuit.LegUse.{LegUse}
 use Rattle.records.specs.declared.circuit.Sense.{Sense}
 use Rattle.records.specs.declared.circuit.Sense.the-variants.{Along, Against}
@@ -41,6 +42,17 @@ use-record u = record { leg = u .leg .value; sense = u .sense }
 
 abbrev pub circuit-record : Circuit → CircuitRecord
 circuit-record c = record { number = c .number .value; due = c .due .bits; legs = map use-record (vec-items (c .legs)) }
+
+-- what a circuit's first two words say
+pub record HeadRecord : Type 0 where
+  pub number : ℕ
+  pub due : ℕ
+
+abbrev pub head-record : Head → HeadRecord
+head-record h = record { number = h .number .value; due = h .due .bits }
+
+abbrev pub head-of : CircuitRecord → HeadRecord
+head-of c = record { number = c .number; due = c .due }
 
 -- bit 27 of a use is 1 where the leg is run against its direction
 abbrev pub sense-bit : Sense → ℕ
@@ -96,6 +108,9 @@ circuit-refusals ws = refusal Layout (misplaced 0 circuit-layout ws) ∷ refusal
 
 abbrev pub circuit-decoded : List ℕ → Result CircuitRecord Refusal
 circuit-decoded ws = unless (first (circuit-refusals ws)) (circuit-read ws)
+
+abbrev pub head-decoded : List ℕ → Result HeadRecord Refusal
+head-decoded ws = unless (first (circuit-refusals ws)) (head-of (circuit-read ws))
 
 abbrev pub uses-fit : List UseRecord → Bool
 uses-fit [] = true

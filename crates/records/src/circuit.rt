@@ -23,6 +23,13 @@ pub struct LegUse {
     pub sense: Sense,
 }
 
+// What a circuit's first two words say.
+#[derive(Clone, Copy)]
+pub struct Head {
+    pub number: CircuitNumber,
+    pub due: Payload,
+}
+
 #[derive(Drop)]
 pub struct Circuit {
     pub number: CircuitNumber,

@@ -1,2 +1,9 @@
+pub mod Tables
+pub mod Picks
+pub mod Orders
+pub mod Using
+pub mod Outcomes
+pub mod Soundness
+pub mod Strikes
 pub mod Listing
 pub mod Writing

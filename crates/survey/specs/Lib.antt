@@ -1,1 +1,4 @@
+pub mod Numbered
+pub mod Standing
+pub mod Books
 pub mod Writing

@@ -8,11 +8,12 @@ ghost use Rattle.std.specs.Of.Vec.{vec-items};
 ghost use Rattle.std.specs.Options.{mapped};
 ghost use Rattle.std.specs.Vec.{made};
 ghost use Rattle.std.specs.declared.option.Option.the-variants.{Some, None};
-ghost use Rattle.records.specs.Circuits.{use-record, use-read, use-ranged, use-word, use-unranged, head-ranged, circuit-record, circuit-words, circuit-decoded, Circuits-read-back, Least-unranged};
-ghost use Rattle.records.specs.Refusals.{Gives, refusal, unless};
+ghost use Rattle.records.specs.Circuits.{use-record, use-read, use-ranged, use-word, use-unranged, head-ranged, head-record, head-decoded, circuit-record, circuit-words, circuit-decoded, Circuits-read-back, Least-unranged};
+ghost use Rattle.records.specs.Refusals.{Gives, refusal, seen, unless};
 ghost use Rattle.records.specs.Words.{bits, payload};
 ghost use Rattle.records.specs.declared.refusal.Reason.the-variants.{Range};
 use super::Circuit;
+use super::Head;
 use super::LegUse;
 use super::Sense;
 use crate::layout;
@@ -29,7 +30,7 @@ use std::alloc::AllocError;
 use std::alloc::Global;
 
 // The index of a circuit's first use.
-const FIRST_USE: u32 = 2;
+const FIRST_USE: usize = 2;
 
 fn out_of_range(place: u32) -> Refusal
     ensures { λ r. ⌜ r ≡ record { reason = Range; place = place } ⌝ }
@@ -42,7 +43,7 @@ fn out_of_range(place: u32) -> Refusal
 
 impl LegUse {
     // What a word says, where its number is in range and its spare bits are zero.
-    fn read(word: u32) -> Option<LegUse>
+    pub fn read(word: u32) -> Option<LegUse>
         ensures { λ r. ⌜ mapped use-record r ≡ cond (use-ranged word) (Some (use-read word)) None ⌝ }
     {
         let bits = Payload::of_word(word).bits;
@@ -88,7 +89,7 @@ fn check_uses(words: &[u32]) -> Result<(), Refusal>
 {
     for (i, word) in words.iter().enumerate() {
         if LegUse::read(*word).is_none() {
-            return Err(out_of_range(FIRST_USE + i as u32));
+            return Err(out_of_range((FIRST_USE + i) as u32));
         }
     }
     Ok(())
@@ -110,24 +111,31 @@ fn read_uses(heap: Global, words: &[u32]) -> Result<Vec<LegUse>, AllocError>
 }
 
 impl Circuit {
-    pub fn decode(heap: Global, words: &[u32]) -> Result<Circuit, Fault>
-        ensures gives { λ r. ⌜ Gives circuit-record (circuit-decoded (now (words .entry))) r ⌝ }
-        ensures least { λ _. ⌜ Least-unranged ⌝ }
+    // The head of a circuit whose words are all laid out and in range. Nothing is allocated.
+    pub fn head(words: &[u32]) -> Result<Head, Refusal>
+        ensures { λ r. ⌜ seen head-record r ≡ head-decoded (now (words .entry)) ⌝ }
     {
         layout::check(&layout::CIRCUIT, words)?;
         let [head, due, uses @ ..] = words else {
             unreachable()
         };
         let Some(number) = head_number(*head) else {
-            return Err(Fault::Refused(out_of_range(0)));
+            return Err(out_of_range(0));
         };
         check_uses(uses)?;
-        let legs = read_uses(heap, uses)?;
-        Ok(Circuit {
+        Ok(Head {
             number,
             due: Payload::of_word(*due),
-            legs,
         })
+    }
+
+    pub fn decode(heap: Global, words: &[u32]) -> Result<Circuit, Fault>
+        ensures gives { λ r. ⌜ Gives circuit-record (circuit-decoded (now (words .entry))) r ⌝ }
+        ensures least { λ _. ⌜ Least-unranged ⌝ }
+    {
+        let Head { number, due } = Circuit::head(words)?;
+        let legs = read_uses(heap, &words[FIRST_USE..])?;
+        Ok(Circuit { number, due, legs })
     }
 
     pub fn encode(&self, heap: Global) -> Result<Vec<u32>, AllocError>
