@@ -7,3 +7,4 @@ pub mod Soundness
 pub mod Strikes
 pub mod Listing
 pub mod Writing
+pub mod Ways

@@ -2,3 +2,4 @@ pub mod Numbered
 pub mod Standing
 pub mod Books
 pub mod Writing
+pub mod Carrying
