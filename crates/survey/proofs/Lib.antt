@@ -5,3 +5,4 @@ pub mod Using
 pub mod Outcomes
 pub mod Soundness
 pub mod Strikes
+pub mod Entering
