@@ -5,6 +5,7 @@ pub mod Using
 pub mod Outcomes
 pub mod Soundness
 pub mod Strikes
+pub mod Entering
 pub mod Listing
 pub mod Writing
 pub mod Ways

@@ -2,4 +2,5 @@
 pub mod book;
 pub mod carrying;
 pub mod grade;
+mod making;
 mod misses;

@@ -9,6 +9,7 @@ ghost use Rattle.plainbook.specs.Refusals.{refused-if};
 ghost use Rattle.plainbook.specs.Steps.{opened, step, striking-leg, striking-circuit};
 ghost use Rattle.survey.specs.Books.{plain-book, Answers-always, is-done};
 use super::Book;
+use crate::making::refuse;
 use quantities::quantity::Quantity;
 use records::refusal::Reason;
 use records::refusal::Refusal;
@@ -20,12 +21,6 @@ use std::collections::BTreeMap;
 const LEGS: u32 = 128;
 
 const CIRCUITS: u32 = 32;
-
-fn refuse(reason: Reason, place: u32) -> Refusal
-    ensures { λ r. ⌜ r ≡ record { reason = reason; place = place } ⌝ }
-{
-    Refusal { reason, place }
-}
 
 // A number from 1 to the greatest.
 fn numbered(number: u32, greatest: u32) -> Result<u8, Refusal>
