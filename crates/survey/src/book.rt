@@ -6,6 +6,7 @@ use records::circuit::Circuit;
 use records::leg::Leg;
 use std::collections::BTreeMap;
 
+mod chain;
 mod enter;
 mod keep;
 mod uses;

@@ -1,0 +1,64 @@
+// The legs that a circuit's words name, one after another.
+ghost use mathlib.Core.Path.{_≡_};
+ghost use mathlib.Core.List.{[], _∷_, map};
+ghost use Prim.Native.Nat.{_≤_, _<_};
+ghost use lib.ListN.{length};
+ghost use Rattle.std.specs.declared.option.Option.the-variants.{None};
+ghost use Rattle.records.specs.Circuits.{use-read, use-unranged};
+ghost use Rattle.records.specs.Refusals.{first, unless};
+ghost use Rattle.plainbook.specs.Findings.{form};
+ghost use Rattle.plainbook.specs.Refusals.{chain-refusals};
+ghost use Rattle.plainbook.specs.Surveys.{names, runs};
+ghost use Rattle.survey.specs.Books.{surveyed};
+ghost use Rattle.survey.specs.Chaining.{Run-as};
+use super::Book;
+use crate::making::refuse;
+use records::circuit::LegUse;
+use records::circuit::Sense;
+use records::refusal::Reason;
+use records::refusal::Refusal;
+use standards::finding::Form;
+
+// Whether the words name the leg.
+fn names(leg: u8, words: &[u32]) -> bool
+    ensures { λ r. ⌜ r ≡ names leg (map use-read (now (words .entry))) ⌝ }
+{
+    for word in words {
+        if word % 256 == leg as u32 {
+            return true;
+        }
+    }
+    false
+}
+
+// A leg as a word names it: its number, and the nodes where it begins and ends.
+#[derive(Clone, Copy)]
+pub(crate) struct Stretch {
+    leg: u8,
+    begin: u16,
+    end: u16,
+}
+
+impl<Q, S> Book<Q, S> {
+    // The leg that a word in range names, where it stands.
+    fn stretch(&self, word: u32, index: u32) -> Result<Stretch, Refusal>
+        requires { ⌜ use-unranged 2 (word ∷ []) ≡ None ⌝ }
+        ensures { λ r. ⌜ Run-as (surveyed (now (self .entry)) .legs) (use-read word) index r ⌝ }
+    {
+        let Some(LegUse { leg, sense }) = LegUse::read(word) else {
+            unreachable()
+        };
+        let Some(found) = self.legs.get(&leg.value) else {
+            return Err(refuse(Reason::Absent, index));
+        };
+        let (begin, end) = match sense {
+            Sense::Along => (found.start.value, found.end.value),
+            Sense::Against => (found.end.value, found.start.value),
+        };
+        Ok(Stretch {
+            leg: leg.value,
+            begin,
+            end,
+        })
+    }
+}
