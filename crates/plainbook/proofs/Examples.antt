@@ -136,17 +136,14 @@ moved c = survey (up 11 350) (down 12) c
 abbrev named : (number : ℕ) (x y : UseRecord) → CircuitRecord
 named number x y = circuit number (x ∷ y ∷ [])
 
+by-own : (k m n : ℕ) → m + k ≡ n + k → m ≡ n
+by-own k m n e = omega arith
+
 -- legs move by ten, circuits by four
-ten-own : (m n : ℕ) → m + 10 ≡ n + 10 → m ≡ n
-ten-own m n e = omega arith
-
-four-own : (m n : ℕ) → m + 4 ≡ n + 4 → m ≡ n
-four-own m n e = omega arith
-
 renumbering : (c : CircuitRecord) → Rewriting heights-terms (plain c) (moved (renumbered-circuit (c .number + 4) (renamed-circuit (λ n. n + 10) c)))
 renumbering c =
-    and-then (legs-renumbered (λ n. n + 10) (legs-moved (λ n. n + 10) ten-own (up 1 350) (down 2) c))
-    (circuits-renumbered (λ n. n + 4) (circuits-moved (λ n. n + 4) four-own (up 11 350) (down 12) (renamed-circuit (λ n. n + 10) c)))
+    and-then (legs-renumbered (λ n. n + 10) (legs-moved (λ n. n + 10) (by-own 10) (up 1 350) (down 2) c))
+    (circuits-renumbered (λ n. n + 4) (circuits-moved (λ n. n + 4) (by-own 4) (up 11 350) (down 12) (renamed-circuit (λ n. n + 10) c)))
 
 abbrev round : CircuitRecord
 round = named 1 (along 1) (along 2)
