@@ -12,3 +12,4 @@ pub mod Bare
 pub mod Rewritten
 pub mod Agreement
 pub mod Figures
+pub mod Examples

@@ -75,7 +75,7 @@ stand-same : (f g : ℕ → Option LegRecord) → ((n : ℕ) → g n ≡ f n) �
 stand-same f g e [] h = tt
 stand-same f g e (u ∷ us) h = (ap isSome (e (u .leg)) ∙ h .0, stand-same f g e us (h .1))
 
-some-same : {X : Type 0} {x y : X} → Some x ≡ Some y → x ≡ y
+pub some-same : {X : Type 0} {x y : X} → Some x ≡ Some y → x ≡ y
 some-same e = cc
 
 -- fit legs, in another survey with the same legs

@@ -7,3 +7,4 @@ pub mod Steps
 pub mod Rewritings
 pub mod Promise
 pub mod Figures
+pub mod Examples
