@@ -8,4 +8,6 @@ pub mod Strikes
 pub mod Entering
 pub mod Listing
 pub mod Writing
+pub mod Naming
+pub mod Walking
 pub mod Ways

@@ -19,6 +19,9 @@ use records::refusal::Reason;
 use records::refusal::Refusal;
 use standards::finding::Form;
 
+// The index of the first word that names a leg.
+const FIRST_USE: u32 = 2;
+
 // Whether the words name the leg.
 fn names(leg: u8, words: &[u32]) -> bool
     ensures { λ r. ⌜ r ≡ names leg (map use-read (now (words .entry))) ⌝ }
@@ -45,20 +48,44 @@ impl<Q, S> Book<Q, S> {
         requires { ⌜ use-unranged 2 (word ∷ []) ≡ None ⌝ }
         ensures { λ r. ⌜ Run-as (surveyed (now (self .entry)) .legs) (use-read word) index r ⌝ }
     {
-        let Some(LegUse { leg, sense }) = LegUse::read(word) else {
+        let Some(used) = LegUse::read(word) else {
             unreachable()
         };
-        let Some(found) = self.legs.get(&leg.value) else {
+        let leg = used.leg.value;
+        let Some(found) = self.legs.get(&leg) else {
             return Err(refuse(Reason::Absent, index));
         };
-        let (begin, end) = match sense {
+        let (begin, end) = match used.sense {
             Sense::Along => (found.start.value, found.end.value),
             Sense::Against => (found.end.value, found.start.value),
         };
-        Ok(Stretch {
-            leg: leg.value,
-            begin,
-            end,
+        Ok(Stretch { leg, begin, end })
+    }
+
+    // The form of the circuit that words in range name, each leg standing, named once, and beginning where the one
+    // before it ended.
+    pub(crate) fn chain(&self, words: &[u32]) -> Result<Form, Refusal>
+        requires ranged { ⌜ use-unranged 2 (now words) ≡ None ⌝ }
+        requires some { ⌜ 0 < length (now words) ⌝ }
+        requires few { ⌜ length (now words) ≤ 16 ⌝ }
+        ensures { λ r. ⌜ r ≡ unless (first (chain-refusals (surveyed (now (self .entry)) .legs) [] None 2 (map use-read (now (words .entry))))) (form (runs (surveyed (now (self .entry)) .legs) (map use-read (now (words .entry))))) ⌝ }
+    {
+        let first = self.stretch(words[0], FIRST_USE)?;
+        let mut node = first.end;
+        for i in 1..words.len() {
+            let index = FIRST_USE + i as u32;
+            let next = self.stretch(words[i], index)?;
+            if names(next.leg, &words[0..i]) {
+                return Err(refuse(Reason::Twice, index));
+            }
+            if next.begin != node {
+                return Err(refuse(Reason::Broken, index));
+            }
+            node = next.end;
+        }
+        Ok(Form {
+            closed: first.begin == node,
+            legs: words.len() as u8,
         })
     }
 }
