@@ -6,3 +6,4 @@ pub mod Outcomes
 pub mod Soundness
 pub mod Strikes
 pub mod Entering
+pub mod Running

@@ -1,3 +1,4 @@
 pub mod Numbered
 pub mod Standing
+pub mod Paths
 pub mod Books

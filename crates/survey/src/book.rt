@@ -7,6 +7,7 @@ use records::leg::Leg;
 use std::collections::BTreeMap;
 
 mod enter;
+mod findings;
 mod keep;
 mod uses;
 

@@ -2,3 +2,4 @@
 pub mod book;
 pub mod grade;
 mod making;
+mod path;
