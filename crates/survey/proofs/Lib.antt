@@ -7,3 +7,5 @@ pub mod Soundness
 pub mod Strikes
 pub mod Entering
 pub mod Running
+pub mod Collecting
+pub mod Judging

@@ -1,4 +1,5 @@
 pub mod Numbered
 pub mod Standing
 pub mod Paths
+pub mod Grades
 pub mod Books

@@ -6,8 +6,10 @@ use records::circuit::Circuit;
 use records::leg::Leg;
 use std::collections::BTreeMap;
 
+mod collect;
 mod enter;
 mod findings;
+mod judge;
 mod keep;
 mod uses;
 

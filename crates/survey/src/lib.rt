@@ -3,3 +3,4 @@ pub mod book;
 pub mod grade;
 mod making;
 mod path;
+mod whole;
