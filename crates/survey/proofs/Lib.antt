@@ -6,6 +6,9 @@ pub mod Outcomes
 pub mod Soundness
 pub mod Strikes
 pub mod Entering
+pub mod Running
+pub mod Collecting
+pub mod Judging
 pub mod Listing
 pub mod Writing
 pub mod Naming

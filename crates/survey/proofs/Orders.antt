@@ -130,3 +130,10 @@ module _ {X Z : Type 0} (high : ℕ) (m : BTreeMap ℕ X Z) (o : Numbered high m
   -- the first number that passes is the first key that does
   pub first-key : (t : ℕ → X → Bool) → first-number (λ q. on-some (t q) (table m q)) (counting 1 high) ≡ pick t (zipped (keys m) (vals m))
   first-key t = first-vals t high 1 (1 + high) (keys m) (vals m) refl rising (ordered high m o .0)
+
+  pub few-keys : length (keys m) ≤ high
+  few-keys = omega (arith, few 1 (1 + high) (keys m) (omega arith) rising)
+    where
+      few : (a b : ℕ) (ks : List ℕ) → a ≤ b → Climb a b ks → length ks + a ≤ b
+      few a b [] l h = omega arith
+      few a b (k ∷ ks) l h = let rest = few (k + 1) b ks (omega (arith, h .1)) (h .2) in omega (arith, rest, h .0)

@@ -8,11 +8,11 @@ use Rattle.records.specs.declared.refusal.Refusal.{Refusal}
 use Rattle.records.specs.declared.refusal.Fault.{Fault}
 use Rattle.records.specs.declared.refusal.Fault.the-variants.{Refused, Memory}
 use Rattle.records.specs.Refusals.{seen}
-use Rattle.plainbook.specs.Grades as plain
 use Rattle.plainbook.specs.Steps.{Held, Outcome, Answer, done, graded}
 use Rattle.plainbook.specs.Surveys.{Survey}
 use Rattle.survey.specs.declared.book.Book.{Book}
 use Rattle.survey.specs.declared.grade.Grade.{Grade}
+use Rattle.survey.specs.Grades.{grade-record}
 use Rattle.survey.specs.Standing.{standing-legs, standing-circuits}
 
 module _ {Q S : Type 0} where
@@ -35,9 +35,6 @@ module _ {Q S : Type 0} where
 
 abbrev pub is-done : Unit {0} → Answer
 is-done _ = done
-
-abbrev pub grade-record : Grade → plain.Grade
-grade-record g = record { set = g .met .bits; count = g .count; best = g .best }
 
 abbrev pub is-graded : Grade → Answer
 is-graded g = graded (grade-record g)

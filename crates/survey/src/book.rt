@@ -6,8 +6,11 @@ use records::circuit::Circuit;
 use records::leg::Leg;
 use std::collections::BTreeMap;
 
+mod collect;
 mod chain;
 mod enter;
+mod findings;
+mod judge;
 mod keep;
 mod uses;
 

@@ -3,4 +3,6 @@ pub mod book;
 pub mod carrying;
 pub mod grade;
 mod making;
+mod path;
+mod whole;
 mod misses;

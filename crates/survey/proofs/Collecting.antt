@@ -1,0 +1,77 @@
+-- Findings collected, one for each value of a map. Assumes nothing.
+use mathlib.Core.Path.{_≡_, refl, sym, ap, _∙_}
+use mathlib.Core.Bool.{Bool, true, false, cond}
+use mathlib.Core.List.{List, [], _∷_, _++_, map, append-assoc, append-nil}
+use Prim.Native.Nat.{ℕ, suc, _+_, _-_, _^_, _≤_, _<_, min}
+use native.Mathlib.Omega.{arith}
+use lib.ListN.{length, getD, drop}
+use Rattle.std.specs.declared.option.Option.{Option}
+use Rattle.std.specs.declared.collections.BTreeMap.{BTreeMap}
+use Rattle.std.specs.BTreeMap.{vals, keys}
+use Rattle.std.specs.Iters.{counting}
+use Rattle.std.specs.Options.{mapped}
+use Rattle.std.proofs.shelf.Lists.{nil-from-length, at-drop-more, at-drop-all, length-map}
+use Rattle.records.specs.Circuits.{circuit-record}
+use Rattle.records.specs.Legs.{leg-record}
+use Rattle.quantities.specs.Terms.{Terms}
+use Rattle.standards.specs.declared.finding.CircuitFinding.{CircuitFinding}
+use Rattle.standards.specs.declared.finding.WholeFinding.{WholeFinding}
+use Rattle.plainbook.specs.Findings.{leg-finding, circuit-finding, leg-findings, circuit-findings, closed-count, closure-sum, whole-finding}
+use Rattle.plainbook.specs.Surveys.{standing, leg-numbers, circuit-numbers}
+use Rattle.plainbook.proofs.Items.{map-standing}
+use Rattle.survey.specs.declared.book.Book.{Book}
+use Rattle.survey.specs.Books.{surveyed}
+use Rattle.survey.specs.Numbered.{Numbered, table}
+use Rattle.survey.proofs.Orders.{vals-stand, few-keys}
+use Rattle.survey.proofs.Tables.{ordered}
+
+-- a loop that pushes f of each item: one turn, and the end
+pub map-turn : {A B : Type 0} (f : A → B) (vs : List B) {ws : List B} {xs ys : List A} {x : A} {y : B} {all : List B} → ws ≡ vs ++ y ∷ [] → y ≡ f x → xs ≡ x ∷ ys → vs ++ map f xs ≡ all → ws ++ map f ys ≡ all
+map-turn f vs {ys = ys} {x = x} pushed is turn inv =
+    ap (λ us. us ++ map f ys) (pushed ∙ ap (λ y. vs ++ y ∷ []) is) ∙ append-assoc vs (f x ∷ []) (map f ys) ∙ ap (λ us. vs ++ map f us) (sym turn) ∙ inv
+
+pub map-end : {A B : Type 0} (f : A → B) (vs : List B) (xs : List A) {all : List B} → length xs ≡ 0 → vs ++ map f xs ≡ all → vs ≡ all
+map-end f vs xs none inv = sym (append-nil vs) ∙ ap (λ us. vs ++ map f us) (sym (nil-from-length xs none)) ∙ inv
+
+map-twice : {A B C : Type 0} (f : B → C) (g : A → B) (xs : List A) → map f (map g xs) ≡ map (λ x. f (g x)) xs
+map-twice f g [] = refl
+map-twice f g (x ∷ xs) = ap (λ ys. f (g x) ∷ ys) (map-twice f g xs)
+
+-- what stands, read by g and then by f
+read-twice : {X Y W Z : Type 0} (f : Y → W) (g : X → Y) (high : ℕ) (m : BTreeMap ℕ X Z) → Numbered high m → map f (standing (λ n. mapped g (table m n)) (counting 1 high)) ≡ map (λ x. f (g x)) (vals m)
+read-twice f g high m o =
+    ap (map f) (sym (map-standing g (table m) (counting 1 high)) ∙ ap (map g) (vals-stand high m o)) ∙ map-twice f g (vals m)
+
+module _ {Q S Element : Type 0} (q : Terms Element) (b : Book Q S) where
+  pub legs-found : leg-findings q (surveyed b) ≡ map (λ l. leg-finding q (leg-record l)) (vals (b .legs))
+  unfolding leg-numbers
+  legs-found = read-twice (leg-finding q) leg-record 128 (b .legs) (b .«legs_numbered»)
+
+  pub circuits-found : circuit-findings q (surveyed b) ≡ map (λ c. circuit-finding q (surveyed b) (circuit-record c)) (vals (b .circuits))
+  unfolding circuit-numbers
+  circuits-found = read-twice (circuit-finding q (surveyed b)) circuit-record 32 (b .circuits) (b .«circuits_numbered»)
+
+  pub few-circuits : length (circuit-findings q (surveyed b)) ≤ 32
+  few-circuits =
+      let few = few-keys 32 (b .circuits) (b .«circuits_numbered») in
+      let even = ordered 32 (b .circuits) (b .«circuits_numbered») .0 in
+      let all = ap length circuits-found ∙ length-map (vals (b .circuits)) (λ c. circuit-finding q (surveyed b) (circuit-record c)) in
+      omega (arith, few, even, all)
+
+-- ---- the whole, one finding after another
+pub record Counted (n sum : ℕ) (rest all : List CircuitFinding) : Type 0 where
+  pub circuits : n + closed-count rest ≡ closed-count all
+  pub closures : min (sum + closure-sum rest) (2 ^ 64 - 1) ≡ min (closure-sum all) (2 ^ 64 - 1)
+
+pub counted-more : (fs : List CircuitFinding) (i : ℕ) (d : CircuitFinding) (n n′ sum sum′ : ℕ) → i < length fs → n′ ≡ n + cond (getD fs i d .form .closed) 1 0 → sum′ ≡ min (sum + getD fs i d .closure) (2 ^ 64 - 1)
+    → Counted n sum (drop i fs) fs → Counted n′ sum′ (drop (i + 1) fs) fs
+counted-more fs i d n n′ sum sum′ l en es h =
+    let count = at-drop-more closed-count fs i d l in
+    let total = at-drop-more closure-sum fs i d l in
+    record { circuits = omega (arith, h .circuits, count, en); closures = omega (arith, h .closures, total, es) }
+
+pub counted-end : (fs : List CircuitFinding) (i n sum : ℕ) → length fs ≤ i → sum ≤ 2 ^ 64 - 1 → Counted n sum (drop i fs) fs → record { circuits = n; closures = sum } ≡ whole-finding fs
+counted-end fs i n sum l fits h =
+    let count : n ≡ closed-count fs = omega (arith, h .circuits, at-drop-all closed-count fs i l) in
+    let total : sum ≡ min (closure-sum fs) (2 ^ 64 - 1) = omega (arith, h .closures, at-drop-all closure-sum fs i l) in
+    λ i. record { circuits = count i; closures = total i }

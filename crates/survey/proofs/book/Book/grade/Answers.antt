@@ -1,0 +1,46 @@
+use mathlib.Core.Path.{_≡_, refl, sym, ap, _∙_}
+use mathlib.Core.Bool.{_&&_}
+use mathlib.Core.List.{[], _∷_}
+use native.Mathlib.Omega.{arith}
+use lib.ListN.{length}
+use Rattle.std.proofs.shelf.Results.{err-from-errBy}
+use Rattle.records.specs.Refusals.{first}
+use Rattle.standards.specs.Gathering.{all-meet}
+use Rattle.plainbook.specs.Findings.{whole-finding}
+use Rattle.plainbook.specs.Grades.{grade}
+use Rattle.plainbook.specs.Refusals.{grade-refusals}
+use Rattle.plainbook.specs.Steps.{graded}
+use Rattle.survey.specs.Books.{plain-book, surveyed, is-graded}
+use Rattle.survey.proofs.Collecting.{few-circuits}
+use Rattle.survey.proofs.Judging.{graded-by}
+use Rattle.survey.proofs.Outcomes.{refuses, answers, was-refused, was-given}
+use Rattle.survey.proofs.book.Book.grade.Needs as need
+
+pub returns-in-Break-check-grade : need.returns-in-Break-check-grade
+returns-in-Break-check-grade g c =
+    let b = c .args .self .now in
+    let q = g .Q·Quantity .meaning (b .quantity) in
+    let s = g .S·Standard .meaning (b .standard) in
+    let p = err-from-errBy (c .from-residual .result) (c .from-residual .ensures .1) in
+    rw (p .1, p .2)
+    (refuses is-graded (plain-book b) [] (graded (grade q s (surveyed b))) (surveyed b) [] (first (grade-refusals q s (surveyed b))) _ (was-refused _ tt _ (c .in-Break-check-grade .ensures tt)))
+
+pub whole-finding-whole-requires : need.whole-finding-whole-requires
+whole-finding-whole-requires g c κs =
+    let b = c .args .self .now in
+    let q = g .Q·Quantity .meaning (b .quantity) in
+    omega (arith, few-circuits q b, ap length (c .deref .ensures .value ∙ c .in-Continue-circuits .ensures tt))
+
+pub returns : need.returns
+returns g c =
+    let b = c .args .self .now in
+    let q = g .Q·Quantity .meaning (b .quantity) in
+    let s = g .S·Standard .meaning (b .standard) in
+    let whole = c .whole-finding-whole .ensures ∙ ap whole-finding (c .deref .ensures .value ∙ c .in-Continue-circuits .ensures tt) in
+    let legs = c .deref-2 .ensures .value ∙ c .in-Continue-legs .ensures tt in
+    let circuits = c .deref-3 .ensures .value ∙ c .in-Continue-circuits .ensures tt in
+    answers is-graded (plain-book b) [] (graded (grade q s (surveyed b))) (surveyed b) [] (first (grade-refusals q s (surveyed b))) (c .of .result) _
+    (was-given _ tt _ (c .in-Continue-check-grade .ensures tt) .0)
+    (ap graded (graded-by q s (surveyed b) (c .met .result) (c .of .result)
+    (λ k. c .met .ensures k ∙ (λ i. all-meet (s .legs) (legs i) k && (all-meet (s .circuits) (circuits i) k && all-meet (s .whole) (whole i ∷ []) k))) (c .of .ensures)))
+    refl
