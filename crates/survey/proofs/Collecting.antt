@@ -16,7 +16,8 @@ use Rattle.records.specs.Legs.{leg-record}
 use Rattle.quantities.specs.Terms.{Terms}
 use Rattle.standards.specs.declared.finding.CircuitFinding.{CircuitFinding}
 use Rattle.standards.specs.declared.finding.WholeFinding.{WholeFinding}
-use Rattle.plainbook.specs.Findings.{leg-finding, circuit-finding, leg-findings, circuit-findings, closed-count, closure-sum, whole-finding}
+use Rattle.standards.specs.Observed.{leg-finding}
+use Rattle.plainbook.specs.Findings.{circuit-finding, leg-findings, circuit-findings, closed-count, closure-sum, whole-finding}
 use Rattle.plainbook.specs.Surveys.{standing, leg-numbers, circuit-numbers}
 use Rattle.plainbook.proofs.Items.{map-standing}
 use Rattle.survey.specs.declared.book.Book.{Book}

@@ -13,4 +13,5 @@ pub mod Listing
 pub mod Writing
 pub mod Naming
 pub mod Walking
+pub mod Joining
 pub mod Ways

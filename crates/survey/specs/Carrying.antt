@@ -15,7 +15,7 @@ use Rattle.quantities.specs.Terms.{Terms}
 use Rattle.standards.specs.Rules.{Rules}
 use Rattle.plainbook.specs.Steps as plain
 use Rattle.plainbook.specs.Steps.{Held, Outcome, outcomes, run}
-use Rattle.survey.specs.Books.{grade-record}
+use Rattle.survey.specs.Grades.{grade-record}
 use Rattle.survey.specs.declared.carrying.Answer.{Answer}
 use Rattle.survey.specs.declared.carrying.Answer.the-variants.{Done, Graded, Listed}
 use Rattle.survey.specs.declared.carrying.Call.{Call}

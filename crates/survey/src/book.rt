@@ -6,10 +6,11 @@ use records::circuit::Circuit;
 use records::leg::Leg;
 use std::collections::BTreeMap;
 
-mod collect;
 mod chain;
+mod collect;
 mod enter;
 mod findings;
+mod join;
 mod judge;
 mod keep;
 mod uses;

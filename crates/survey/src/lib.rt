@@ -3,6 +3,6 @@ pub mod book;
 pub mod carrying;
 pub mod grade;
 mod making;
+mod misses;
 mod path;
 mod whole;
-mod misses;

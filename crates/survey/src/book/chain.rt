@@ -13,14 +13,15 @@ ghost use Rattle.survey.specs.Books.{surveyed};
 ghost use Rattle.survey.specs.Chaining.{Run-as};
 use super::Book;
 use crate::making::refuse;
+use crate::path::begins;
+use crate::path::ends;
 use records::circuit::LegUse;
-use records::circuit::Sense;
 use records::refusal::Reason;
 use records::refusal::Refusal;
 use standards::finding::Form;
 
 // The index of the first word that names a leg.
-const FIRST_USE: u32 = 2;
+pub(crate) const FIRST_USE: u32 = 2;
 
 // Whether the words name the leg.
 fn names(leg: u8, words: &[u32]) -> bool
@@ -55,11 +56,11 @@ impl<Q, S> Book<Q, S> {
         let Some(found) = self.legs.get(&leg) else {
             return Err(refuse(Reason::Absent, index));
         };
-        let (begin, end) = match used.sense {
-            Sense::Along => (found.start.value, found.end.value),
-            Sense::Against => (found.end.value, found.start.value),
-        };
-        Ok(Stretch { leg, begin, end })
+        Ok(Stretch {
+            leg,
+            begin: begins(found, used.sense),
+            end: ends(found, used.sense),
+        })
     }
 
     // The form of the circuit that words in range name, each leg standing, named once, and beginning where the one

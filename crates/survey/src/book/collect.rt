@@ -19,7 +19,7 @@ impl<Q: Quantity, S> Book<Q, S> {
     {
         let mut findings = Vec::new(heap);
         for leg in self.legs.values() {
-            findings.push(self.leg_finding(leg))?;
+            findings.push(LegFinding::of(&self.quantity, leg))?;
         }
         Ok(findings)
     }

@@ -2,7 +2,7 @@
 ghost use mathlib.Core.Path.{_≡_};
 ghost use Rattle.records.specs.Circuits.{circuit-record};
 ghost use Rattle.records.specs.Legs.{leg-record};
-ghost use Rattle.plainbook.specs.Findings.{contribution, own-misclosure, joined, leg-finding, circuit-finding};
+ghost use Rattle.plainbook.specs.Findings.{contribution, own-misclosure, joined, circuit-finding};
 ghost use Rattle.survey.specs.Books.{surveyed};
 ghost use Rattle.survey.specs.Paths.{closure-where};
 use super::Book;
@@ -15,7 +15,6 @@ use records::leg::Length;
 use records::leg::Running;
 use records::word::Payload;
 use standards::finding::CircuitFinding;
-use standards::finding::LegFinding;
 
 // Single if either is single.
 fn joined(first: Running, second: Running) -> Running
@@ -44,17 +43,6 @@ impl<Q: Quantity, S> Book<Q, S> {
         ensures { λ r. ⌜ r ≡ own-misclosure (Q·Quantity .meaning (now (self .entry) .quantity)) (leg-record (now (leg .entry))) ⌝ }
     {
         self.quantity.misclosure(leg.value, leg.back)
-    }
-
-    pub fn leg_finding(&self, leg: &Leg) -> LegFinding
-        ensures { λ r. ⌜ r ≡ leg-finding (Q·Quantity .meaning (now (self .entry) .quantity)) (leg-record (now (leg .entry))) ⌝ }
-    {
-        LegFinding {
-            length: leg.length,
-            running: leg.running(),
-            misclosure: self.quantity.size(self.own_misclosure(leg)),
-            readings: leg.readings,
-        }
     }
 
     // The size of the contributions' sum less the due sum, 0 where the circuit is open.

@@ -5,7 +5,7 @@ use Rattle.std.specs.Of.Vec.{vec-items}
 use Rattle.std.specs.Parts.{iter-rest}
 use Rattle.records.specs.declared.leg.Leg.{Leg}
 use Rattle.records.specs.Legs.{leg-record}
-use Rattle.plainbook.specs.Findings.{leg-finding}
+use Rattle.standards.specs.Observed.{leg-finding}
 use Rattle.survey.proofs.book.Book.leg_findings.Given as given
 
 -- what is pushed, and the findings still to come, are all of them

@@ -20,22 +20,12 @@ returns-in-rest-get g c =
     let found = c .in-rest-get .ensures tt .finds (c .in-Some .used .leg .value) refl unsigned (ordered 128 (b .legs) (b .«legs_numbered»)) in
     (ap (λ (u : UseRecord). surveyed b .legs (u .leg)) (sym is) ∙ ap (mapped leg-record) (sym found), c .refuse .ensures)
 
-pub returns-in-Along : need.returns-in-Along
-returns-in-Along g c =
+pub returns : need.returns
+returns g c =
     let b = c .args .self .now in
     let used = c .in-Some .used in
     let l = leg-record (c .in-Some-get .found .now) in
     let found = c .in-Some-get .ensures tt .finds (used .leg .value) refl unsigned (ordered 128 (b .legs) (b .«legs_numbered»)) in
-    subst (λ u. (used .leg .value ≡ u .leg) × ((x : LegRecord) × (surveyed b .legs (u .leg) ≡ Some x) × (l .start ≡ begins (u .sense) x) × (l .end ≡ ends (u .sense) x)))
+    subst (λ u. (used .leg .value ≡ u .leg) × ((x : LegRecord) × (surveyed b .legs (u .leg) ≡ Some x) × (c .begins .result ≡ begins (u .sense) x) × (c .ends .result ≡ ends (u .sense) x)))
     (read-is used _ _ (c .in-Some .ensures tt))
-    (refl, (l, ap (mapped leg-record) (sym found), sym (ap (λ s. begins s l) (c .in-Along .is)), sym (ap (λ s. ends s l) (c .in-Along .is))))
-
-pub returns-in-Against : need.returns-in-Against
-returns-in-Against g c =
-    let b = c .args .self .now in
-    let used = c .in-Some .used in
-    let l = leg-record (c .in-Some-get .found .now) in
-    let found = c .in-Some-get .ensures tt .finds (used .leg .value) refl unsigned (ordered 128 (b .legs) (b .«legs_numbered»)) in
-    subst (λ u. (used .leg .value ≡ u .leg) × ((x : LegRecord) × (surveyed b .legs (u .leg) ≡ Some x) × (l .end ≡ begins (u .sense) x) × (l .start ≡ ends (u .sense) x)))
-    (read-is used _ _ (c .in-Some .ensures tt))
-    (refl, (l, ap (mapped leg-record) (sym found), sym (ap (λ s. begins s l) (c .in-Against .is)), sym (ap (λ s. ends s l) (c .in-Against .is))))
+    (refl, (l, ap (mapped leg-record) (sym found), c .begins .ensures, c .ends .ensures))
