@@ -11,6 +11,7 @@ use Rattle.std.specs.BTreeMap.{vals, keys}
 use Rattle.std.specs.Iters.{counting}
 use Rattle.std.specs.Options.{mapped}
 use Rattle.std.proofs.shelf.Lists.{nil-from-length, at-drop-more, at-drop-all, length-map}
+use Rattle.records.specs.declared.circuit.Circuit.{Circuit}
 use Rattle.records.specs.Circuits.{circuit-record}
 use Rattle.records.specs.Legs.{leg-record}
 use Rattle.quantities.specs.Terms.{Terms}
@@ -48,6 +49,9 @@ module _ {Q S Element : Type 0} (q : Terms Element) (b : Book Q S) where
   unfolding leg-numbers
   legs-found = read-twice (leg-finding q) leg-record 128 (b .legs) (b .«legs_numbered»)
 
+  abbrev pub circuit-shown : Circuit → CircuitFinding
+  circuit-shown c = circuit-finding q (surveyed b) (circuit-record c)
+
   pub circuits-found : circuit-findings q (surveyed b) ≡ map (λ c. circuit-finding q (surveyed b) (circuit-record c)) (vals (b .circuits))
   unfolding circuit-numbers
   circuits-found = read-twice (circuit-finding q (surveyed b)) circuit-record 32 (b .circuits) (b .«circuits_numbered»)
@@ -75,4 +79,19 @@ pub counted-end : (fs : List CircuitFinding) (i n sum : ℕ) → length fs ≤ i
 counted-end fs i n sum l fits h =
     let count : n ≡ closed-count fs = omega (arith, h .circuits, at-drop-all closed-count fs i l) in
     let total : sum ≡ min (closure-sum fs) (2 ^ 64 - 1) = omega (arith, h .closures, at-drop-all closure-sum fs i l) in
+    λ i. record { circuits = count i; closures = total i }
+
+-- the same over values that are read one after another
+pub counted-turn : {A : Type 0} (g : A → CircuitFinding) (xs ys : List A) (x : A) (f : CircuitFinding) (n n′ sum sum′ : ℕ) (all : List CircuitFinding) → xs ≡ x ∷ ys → f ≡ g x → n′ ≡ n + cond (f .form .closed) 1 0 → sum′ ≡ min (sum + f .closure) (2 ^ 64 - 1)
+    → Counted n sum (map g xs) all → Counted n′ sum′ (map g ys) all
+counted-turn g xs ys x f n n′ sum sum′ all turn is en es h =
+    let count : closed-count (map g xs) ≡ cond (f .form .closed) 1 0 + closed-count (map g ys) = ap (λ l. closed-count (map g l)) turn ∙ sym (ap (λ f. cond (f .form .closed) 1 0 + closed-count (map g ys)) is) in
+    let total : closure-sum (map g xs) ≡ f .closure + closure-sum (map g ys) = ap (λ l. closure-sum (map g l)) turn ∙ sym (ap (λ f. f .closure + closure-sum (map g ys)) is) in
+    record { circuits = omega (arith, h .circuits, count, en); closures = omega (arith, h .closures, total, es) }
+
+pub counted-all : {A : Type 0} (g : A → CircuitFinding) (xs : List A) (n sum : ℕ) (all : List CircuitFinding) → length xs ≡ 0 → sum ≤ 2 ^ 64 - 1 → Counted n sum (map g xs) all → record { circuits = n; closures = sum } ≡ whole-finding all
+counted-all g xs n sum all none fits h =
+    let empty = nil-from-length xs none in
+    let count : n ≡ closed-count all = omega (arith, h .circuits, ap (λ l. closed-count (map g l)) empty) in
+    let total : sum ≡ min (closure-sum all) (2 ^ 64 - 1) = omega (arith, h .closures, ap (λ l. closure-sum (map g l)) empty) in
     λ i. record { circuits = count i; closures = total i }

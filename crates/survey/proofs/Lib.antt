@@ -10,8 +10,10 @@ pub mod Running
 pub mod Collecting
 pub mod Judging
 pub mod Listing
+pub mod Listed
 pub mod Writing
 pub mod Naming
 pub mod Walking
+pub mod Tallies
 pub mod Joining
 pub mod Ways

@@ -7,7 +7,10 @@ use lib.ListN.{length, take, drop}
 use Rattle.std.specs.declared.result.Result.{Result}
 use Rattle.std.specs.declared.result.Result.the-variants.{Ok, Err}
 use Rattle.std.proofs.shelf.Lists.{length-append, length-map, map-append, append-assoc, take-at}
+use Rattle.std.specs.declared.alloc.AllocError.{AllocError}
 use Rattle.records.specs.declared.refusal.Refusal.{Refusal}
+use Rattle.records.specs.declared.refusal.Fault.{Fault}
+use Rattle.records.specs.declared.refusal.Fault.the-variants.{Refused, Memory}
 use Rattle.records.specs.Refusals.{seen}
 use Rattle.quantities.specs.Terms.{Terms}
 use Rattle.standards.specs.Rules.{Rules}
@@ -16,8 +19,8 @@ use Rattle.std.specs.declared.option.Option.the-variants.{Some, None}
 use Rattle.plainbook.specs.Steps as plain
 use Rattle.plainbook.specs.Steps.{Held, Outcome, outcomes, run, step, unless-refused}
 use Rattle.plainbook.specs.Surveys.{Survey}
-use Rattle.survey.specs.Books.{is-done}
-use Rattle.survey.specs.Carrying.{Seen, reply-seen, outcome-seen, plain-call, Carried-out}
+use Rattle.survey.specs.Books.{is-done, Answers}
+use Rattle.survey.specs.Carrying.{Seen, reply-seen, replied, fault-seen, outcome-seen, plain-call, Carried, Carried-out}
 use Rattle.survey.specs.declared.carrying.Call.{Call}
 use Rattle.survey.specs.declared.carrying.Reply.{Reply}
 
@@ -28,6 +31,23 @@ seen-as e f = λ i. record { answer = e i; words = f i }
 pub words-kept : {Q S : Type 0} (h : Held Q S) (words : List ℕ) (r : Option Refusal) (answer : plain.Answer) (p : Survey) → unless-refused h words r answer p words .words ≡ words
 words-kept h words None answer p = refl
 words-kept h words (Some r) answer p = refl
+
+-- a call that changes nothing leaves what is held
+pub held-kept : {Q S : Type 0} (h : Held Q S) (words : List ℕ) (r : Option Refusal) (answer : plain.Answer) (after : List ℕ) → unless-refused h words r answer (h .survey) after .held ≡ h
+held-kept h words None answer after = refl
+held-kept h words (Some r) answer after = refl
+
+ok-is : {a b : Seen} → _≡_ {A = Result Seen AllocError} (Ok a) (Ok b) → a ≡ b
+ok-is e = cc
+
+-- the reply of a call that allocates is the plain book's
+pub carried : {Q S A : Type 0} (view : A → plain.Answer) (out : Outcome Q S) (before after : Held Q S) (words : List ℕ) (result : Result A Fault) (r : Result Reply AllocError) → Answers view out before after result → out .words ≡ words → replied r ≡ fault-seen view words result → Carried out before after r
+carried view out before after words (Ok a) (Ok reply) h same is = (ok-is is ∙ seen-as (sym (h .0)) (sym same), h .1)
+carried view out before after words (Ok a) (Err e) h same is = let z : _≡_ {A = ℕ} 0 1 = cc in absurd (omega arith)
+carried view out before after words (Err (Refused r)) (Ok reply) h same is = (ok-is is ∙ seen-as (sym (h .0)) (sym same), h .1)
+carried view out before after words (Err (Refused r)) (Err e) h same is = let z : _≡_ {A = ℕ} 0 1 = cc in absurd (omega arith)
+carried view out before after words (Err Memory) (Ok reply) h same is = let z : _≡_ {A = ℕ} 0 1 = cc in absurd (omega arith)
+carried view out before after words (Err Memory) (Err e) h same is = h
 
 module _ {Q S Element : Type 0} (terms : Q → Terms Element) (rules : S → Rules) where
   -- what has been done, what is held now, and what is left to do

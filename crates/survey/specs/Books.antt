@@ -1,6 +1,7 @@
 -- A book as the plain book, and what a call answers against the plain book's step.
 use mathlib.Core.Path.{_≡_}
 use mathlib.Core.Bool.{true}
+use Prim.Native.Nat.{ℕ}
 use Rattle.std.specs.declared.result.Result.{Result}
 use Rattle.std.specs.declared.result.Result.the-variants.{Ok, Err}
 use Rattle.std.specs.Results.{isOk}
@@ -8,7 +9,7 @@ use Rattle.records.specs.declared.refusal.Refusal.{Refusal}
 use Rattle.records.specs.declared.refusal.Fault.{Fault}
 use Rattle.records.specs.declared.refusal.Fault.the-variants.{Refused, Memory}
 use Rattle.records.specs.Refusals.{seen}
-use Rattle.plainbook.specs.Steps.{Held, Outcome, Answer, done, graded}
+use Rattle.plainbook.specs.Steps.{Held, Outcome, Answer, done, graded, listed}
 use Rattle.plainbook.specs.Surveys.{Survey}
 use Rattle.survey.specs.declared.book.Book.{Book}
 use Rattle.survey.specs.declared.grade.Grade.{Grade}
@@ -38,3 +39,6 @@ is-done _ = done
 
 abbrev pub is-graded : Grade → Answer
 is-graded g = graded (grade-record g)
+
+abbrev pub is-listed : ℕ → Answer
+is-listed n = listed n

@@ -10,6 +10,8 @@ use Rattle.std.specs.declared.alloc.AllocError.{AllocError}
 use Rattle.std.specs.Of.Vec.{vec-items}
 use Rattle.std.specs.Results.{isOk}
 use Rattle.records.specs.declared.refusal.Refusal.{Refusal}
+use Rattle.records.specs.declared.refusal.Fault.{Fault}
+use Rattle.records.specs.declared.refusal.Fault.the-variants.{Refused, Memory}
 use Rattle.records.specs.Refusals.{seen}
 use Rattle.quantities.specs.Terms.{Terms}
 use Rattle.standards.specs.Rules.{Rules}
@@ -19,13 +21,17 @@ use Rattle.survey.specs.Grades.{grade-record}
 use Rattle.survey.specs.declared.carrying.Answer.{Answer}
 use Rattle.survey.specs.declared.carrying.Answer.the-variants.{Done, Graded, Listed}
 use Rattle.survey.specs.declared.carrying.Call.{Call}
-use Rattle.survey.specs.declared.carrying.Call.the-variants.{Open, StrikeLeg, StrikeCircuit}
+use Rattle.survey.specs.declared.carrying.Call.the-variants.{Open, Enter, Join, StrikeLeg, StrikeCircuit, Grade, Misses}
 use Rattle.survey.specs.declared.carrying.Reply.{Reply}
 
 abbrev pub plain-call : {Q S : Type 0} → Call Q S → plain.Call Q S
 plain-call (Open q s) = plain.opening q s
+plain-call (Enter words) = plain.entering (vec-items words)
+plain-call (Join words) = plain.joining (vec-items words)
 plain-call (StrikeLeg n) = plain.striking-leg n
 plain-call (StrikeCircuit n) = plain.striking-circuit n
+plain-call Grade = plain.grading
+plain-call (Misses class words) = plain.listing class (vec-items words)
 
 abbrev pub plain-answer : Answer → plain.Answer
 plain-answer Done = plain.done
@@ -39,6 +45,16 @@ pub record Seen : Type 0 where
 
 abbrev pub reply-seen : Reply → Seen
 reply-seen r = record { answer = seen plain-answer (r .answer); words = vec-items (r .words) }
+
+abbrev pub replied : Result Reply AllocError → Result Seen AllocError
+replied (Ok reply) = Ok (reply-seen reply)
+replied (Err e) = Err e
+
+-- the reply of a call that allocates: its answer or refusal, and the words, if memory sufficed
+abbrev pub fault-seen : {A : Type 0} → (A → plain.Answer) → List ℕ → Result A Fault → Result Seen AllocError
+fault-seen view words (Ok a) = Ok (record { answer = Ok (view a); words = words })
+fault-seen view words (Err (Refused r)) = Ok (record { answer = Err r; words = words })
+fault-seen view words (Err Memory) = Err (record {})
 
 abbrev pub outcome-seen : {Q S : Type 0} → Outcome Q S → Seen
 outcome-seen out = record { answer = out .answer; words = out .words }

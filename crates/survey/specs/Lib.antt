@@ -4,5 +4,6 @@ pub mod Paths
 pub mod Grades
 pub mod Books
 pub mod Writing
+pub mod Lists
 pub mod Chaining
 pub mod Carrying

@@ -13,6 +13,7 @@ mod findings;
 mod join;
 mod judge;
 mod keep;
+mod list;
 mod uses;
 
 #[derive(Drop)]

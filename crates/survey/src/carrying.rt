@@ -7,8 +7,13 @@ pub mod out;
 #[derive(Drop)]
 pub enum Call<Q, S> {
     Open(Q, S),
+    Enter(Vec<u32>),
+    Join(Vec<u32>),
     StrikeLeg(u32),
     StrikeCircuit(u32),
+    Grade,
+    // the class, and the words to be written
+    Misses(u8, Vec<u32>),
 }
 
 #[derive(Clone, Copy)]

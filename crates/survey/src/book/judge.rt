@@ -45,7 +45,7 @@ fn met<S: Standard>(
 
 impl<Q: Quantity, S: Standard> Book<Q, S> {
     // Refuses a book that has no leg, or a leg that no circuit uses.
-    fn check_grade(&self) -> Result<(), Refusal>
+    pub(crate) fn check_grade(&self) -> Result<(), Refusal>
         ensures { λ r. ⌜ r ≡ unless (first (grade-refusals (Q·Quantity .meaning (now (self .entry) .quantity)) (S·Standard .meaning (now (self .entry) .standard)) (surveyed (now (self .entry))))) tt ⌝ }
     {
         if self.legs.is_empty() {

@@ -1,0 +1,14 @@
+use mathlib.Core.Path.{_≡_}
+use Prim.Native.Nat.{_+_}
+use lib.ListN.{length}
+use Rattle.std.specs.BTreeMap.{vals}
+use Rattle.std.specs.Joined.{joined}
+use Rattle.std.specs.Parts.{iter-rest}
+use Rattle.survey.proofs.Tallies.{circuit-listing}
+use Rattle.survey.proofs.book.Book.count_circuits.Given as given
+
+-- those counted and those to come
+abbrev pub Inv-loop-circuit : given.InvT-loop-circuit
+Inv-loop-circuit g l =
+    let list = circuit-listing (g .Q·Quantity .meaning (l .self .quantity)) (g .S·Standard .meaning (l .self .standard)) (l .self) (l .class) in
+    l .count + length (joined list (iter-rest (l .circuit-iterator))) ≡ length (joined list (vals (l .self .circuits)))
