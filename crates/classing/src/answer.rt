@@ -1,6 +1,9 @@
 // What a call is answered.
 use crate::call::Call;
 use crate::call::Unread;
+use crate::classes::Graded;
+use crate::classes::GradedDisplay;
+use crate::desk::Desk;
 use crate::judge::Judgment;
 use crate::judge::JudgmentDisplay;
 use crate::judge::judge;
@@ -10,7 +13,7 @@ use crate::show::LegShown;
 use crate::show::LegShownDisplay;
 use crate::show::show_circuit;
 use crate::show::show_leg;
-use crate::survey::Survey;
+use crate::surveys::Survey;
 use records::refusal::Fault;
 use records::refusal::FaultFromRefusal;
 use records::refusal::Part;
@@ -27,28 +30,35 @@ pub(crate) enum Answer {
     Leg(LegShown),
     Circuit(CircuitShown),
     Judged(Judgment),
+    Done,
+    Graded(Graded),
+    // the words of the misses
+    Listed(Vec<u32>),
     Refused(Refusal),
+    NoBook,
     NotACall,
     NoMemory,
 }
 
-pub(crate) fn answer_to(heap: Global, text: &str) -> Answer {
+pub(crate) fn answer_to(heap: Global, desk: &mut Desk, text: &str) -> Answer {
     let call = match Call::read(heap, text) {
         Ok(call) => call,
         Err(Unread::NotACall) => return Answer::NotACall,
         Err(Unread::Memory) => return Answer::NoMemory,
     };
-    match carry_out(heap, call) {
+    match carry_out(heap, desk, call) {
         Ok(answer) => answer,
         Err(Fault::Refused(refusal)) => Answer::Refused(refusal),
         Err(Fault::Memory) => Answer::NoMemory,
     }
 }
 
-fn carry_out(heap: Global, call: Call) -> Result<Answer, Fault> {
+fn carry_out(heap: Global, desk: &mut Desk, call: Call) -> Result<Answer, Fault> {
     match call {
         Call::Show(survey, words) => show(heap, survey, words.as_slice()),
         Call::Judge(survey, words) => Ok(Answer::Judged(judge(heap, survey, words.as_slice())?)),
+        Call::Open(survey) => Ok(desk.open(heap, survey)),
+        Call::Ask(ask) => Ok(desk.ask(heap, ask)),
     }
 }
 
@@ -96,6 +106,17 @@ pub(crate) impl fmt::Display for Answer as AnswerDisplay {
             Answer::Leg(leg) => write!(f, "{leg}"),
             Answer::Circuit(circuit) => write!(f, "{circuit}"),
             Answer::Judged(judgment) => write!(f, "{judgment}"),
+            Answer::Done => write!(f, "done"),
+            Answer::Graded(graded) => write!(f, "{graded}"),
+            Answer::Listed(words) => {
+                let count = words.len();
+                write!(f, "misses {count}")?;
+                for word in words.iter() {
+                    write!(f, " {word:08X}")?;
+                }
+                Ok(())
+            }
+            Answer::NoBook => write!(f, "no book"),
             Answer::Refused(refusal) => {
                 let (number, place) = (refusal.reason.number(), refusal.place);
                 let (part, reason) = (part(refusal), reason(refusal));

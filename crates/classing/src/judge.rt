@@ -1,9 +1,12 @@
 // The classes that a leg meets by itself, and the rules that keep it from a better one.
+use crate::classes::CLASSES;
+use crate::classes::Graded;
+use crate::classes::GradedDisplay;
 use crate::rules::LegMiss;
 use crate::rules::LegMissDisplay;
 use crate::rules::LegRule;
 use crate::show::accepted_leg;
-use crate::survey::Survey;
+use crate::surveys::Survey;
 use quantities::angles::Angles;
 use quantities::angles::AnglesQuantity;
 use quantities::heights::Heights;
@@ -14,8 +17,6 @@ use records::refusal::Fault;
 use records::refusal::FaultFromRefusal;
 use records::refusal::FaultFromRefused;
 use standards::acceptance::accept_leg;
-use standards::class::Class;
-use standards::class_set::ClassSet;
 use standards::finding::LegFinding;
 use standards::gathering::OfLegs;
 use standards::gathering::gather;
@@ -26,19 +27,11 @@ use standards::triangulation::Triangulation;
 use standards::triangulation::TriangulationStandard;
 use std::alloc::Global;
 use std::fmt;
-
-const CLASSES: [Class; 5] = [
-    Class::First,
-    Class::Second,
-    Class::Third,
-    Class::Fourth,
-    Class::Fifth,
-];
+use survey::grade::Grade;
 
 #[derive(Drop)]
 pub(crate) struct Judgment {
-    survey: Survey,
-    met: ClassSet,
+    graded: Graded,
     // the rules missed at the classes better than the best that is met
     misses: Vec<LegMiss>,
 }
@@ -79,30 +72,15 @@ fn judge_by<Q: Quantity, S: Standard>(
             }
         }
     }
-    Ok(Judgment {
-        survey,
-        met,
-        misses,
-    })
+    let grade = Grade::of(met);
+    let graded = Graded { survey, grade };
+    Ok(Judgment { graded, misses })
 }
 
 pub(crate) impl fmt::Display for Judgment as JudgmentDisplay {
     fn fmt<W: fmt::Write>(&self, f: &mut fmt::Formatter<W>) -> fmt::Result {
-        let count = self.met.count();
-        write!(f, "classes ")?;
-        for class in CLASSES {
-            if self.met.contains(class) {
-                let number = class.number();
-                write!(f, "{number}")?;
-            }
-        }
-        match self.met.best() {
-            Some(best) => {
-                let (number, name) = (best.number(), self.survey.class_name(best));
-                write!(f, " count {count} best {number}: {name}")?;
-            }
-            None => write!(f, "none count {count} best none: no class")?,
-        }
+        let graded = self.graded;
+        write!(f, "{graded}")?;
         for miss in self.misses.iter() {
             write!(f, "; {miss}")?;
         }

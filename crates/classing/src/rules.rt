@@ -1,5 +1,5 @@
 // The rules for legs in plain words: what was found, and what a class asks.
-use crate::survey::Survey;
+use crate::surveys::Survey;
 use crate::units::Figure;
 use crate::units::FigureDisplay;
 use crate::units::Unit;

@@ -1,5 +1,5 @@
 // What a record says, in plain words.
-use crate::survey::Survey;
+use crate::surveys::Survey;
 use crate::units::Measure;
 use crate::units::MeasureDisplay;
 use quantities::acceptance::accept_due;

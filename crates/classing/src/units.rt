@@ -1,5 +1,5 @@
 // Measures and figures in their units.
-use crate::survey::Survey;
+use crate::surveys::Survey;
 use std::fmt;
 
 // A whole number of hundredths, with two decimals.
