@@ -107,7 +107,9 @@ fn number(words: &mut SplitAsciiWhitespace<'_>) -> Result<u32, Unread> {
         if !digit.is_ascii_digit() {
             return Err(Unread::NotACall);
         }
-        number = number.saturating_mul(10).saturating_add(u32::from(digit - b'0'));
+        number = number
+            .saturating_mul(10)
+            .saturating_add(u32::from(digit - b'0'));
     }
     Ok(number)
 }

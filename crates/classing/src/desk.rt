@@ -54,9 +54,7 @@ impl Desk {
     pub(crate) fn ask(&mut self, heap: Global, ask: Ask) -> Answer {
         match self.open {
             None => Answer::NoBook,
-            Some(Survey::Level) => {
-                carry(heap, Survey::Level, &mut self.heights, call_of(ask))
-            }
+            Some(Survey::Level) => { carry(heap, Survey::Level, &mut self.heights, call_of(ask)) }
             Some(Survey::Triangulation) => {
                 carry(heap, Survey::Triangulation, &mut self.angles, call_of(ask))
             }
