@@ -17,7 +17,8 @@ pub struct Grade {
 
 impl Grade {
     pub fn of(met: ClassSet) -> Grade
-        ensures { λ r. ⌜ grade-record r ≡ record { set = class-bits (holds met); count = members (holds met); best = least (holds met) } ⌝ }
+        ensures set { λ r. ⌜ r .met ≡ met ⌝ }
+        ensures value { λ r. ⌜ grade-record r ≡ record { set = class-bits (holds met); count = members (holds met); best = least (holds met) } ⌝ }
     {
         Grade {
             met,

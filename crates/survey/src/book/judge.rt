@@ -2,6 +2,7 @@
 ghost use mathlib.Core.Path.{_≡_};
 ghost use mathlib.Core.Bool.{_&&_};
 ghost use mathlib.Core.List.{[], _∷_};
+ghost use Rattle.std.specs.Vec.{made};
 ghost use Rattle.records.specs.Refusals.{first, unless};
 ghost use Rattle.standards.specs.declared.class.Class.{Class};
 ghost use Rattle.standards.specs.ClassSets.{holds};
@@ -9,6 +10,7 @@ ghost use Rattle.standards.specs.Gathering.{all-meet};
 ghost use Rattle.plainbook.specs.Refusals.{grade-refusals};
 ghost use Rattle.plainbook.specs.Steps.{step, grading};
 ghost use Rattle.survey.specs.Books.{plain-book, surveyed, Answers, is-graded};
+ghost use Rattle.survey.specs.Grades.{Grade-earned};
 use super::Book;
 use crate::grade::Grade;
 use crate::making::refuse;
@@ -58,7 +60,8 @@ impl<Q: Quantity, S: Standard> Book<Q, S> {
     }
 
     pub fn grade(&self, heap: Global) -> Result<Grade, Fault>
-        ensures { λ r. ⌜ Answers is-graded (step (Q·Quantity .meaning) (S·Standard .meaning) grading (plain-book (now (self .entry)))) (plain-book (now (self .entry))) (plain-book (now (self .entry))) r ⌝ }
+        ensures answer { λ r. ⌜ Answers is-graded (step (Q·Quantity .meaning) (S·Standard .meaning) grading (plain-book (now (self .entry)))) (plain-book (now (self .entry))) (plain-book (now (self .entry))) r ⌝ }
+        ensures earned { λ r. ⌜ made r (Grade-earned (Q·Quantity .meaning (now (self .entry) .quantity)) (S·Standard .meaning (now (self .entry) .standard)) (surveyed (now (self .entry)))) ⌝ }
     {
         self.check_grade()?;
         let legs = self.leg_findings(heap)?;
