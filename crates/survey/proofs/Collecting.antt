@@ -2,15 +2,15 @@
 use mathlib.Core.Path.{_≡_, refl, sym, ap, _∙_}
 use mathlib.Core.Bool.{Bool, true, false, cond}
 use mathlib.Core.List.{List, [], _∷_, _++_, map, append-assoc, append-nil}
-use Prim.Native.Nat.{ℕ, suc, _+_, _-_, _^_, _≤_, _<_, min}
+use Prim.Native.Nat.{ℕ, _+_, _-_, _^_, _≤_, min}
 use native.Mathlib.Omega.{arith}
-use lib.ListN.{length, getD, drop}
+use lib.ListN.{length}
 use Rattle.std.specs.declared.option.Option.{Option}
 use Rattle.std.specs.declared.collections.BTreeMap.{BTreeMap}
-use Rattle.std.specs.BTreeMap.{vals, keys}
+use Rattle.std.specs.BTreeMap.{vals}
 use Rattle.std.specs.Iters.{counting}
 use Rattle.std.specs.Options.{mapped}
-use Rattle.std.proofs.shelf.Lists.{nil-from-length, at-drop-more, at-drop-all, length-map}
+use Rattle.std.proofs.shelf.Lists.{nil-from-length}
 use Rattle.records.specs.declared.circuit.Circuit.{Circuit}
 use Rattle.records.specs.Circuits.{circuit-record}
 use Rattle.records.specs.Legs.{leg-record}
@@ -24,8 +24,7 @@ use Rattle.plainbook.proofs.Items.{map-standing}
 use Rattle.survey.specs.declared.book.Book.{Book}
 use Rattle.survey.specs.Books.{surveyed}
 use Rattle.survey.specs.Numbered.{Numbered, table}
-use Rattle.survey.proofs.Orders.{vals-stand, few-keys}
-use Rattle.survey.proofs.Tables.{ordered}
+use Rattle.survey.proofs.Orders.{vals-stand}
 
 -- a loop that pushes f of each item: one turn, and the end
 pub map-turn : {A B : Type 0} (f : A → B) (vs : List B) {ws : List B} {xs ys : List A} {x : A} {y : B} {all : List B} → ws ≡ vs ++ y ∷ [] → y ≡ f x → xs ≡ x ∷ ys → vs ++ map f xs ≡ all → ws ++ map f ys ≡ all
@@ -56,32 +55,11 @@ module _ {Q S Element : Type 0} (q : Terms Element) (b : Book Q S) where
   unfolding circuit-numbers
   circuits-found = read-twice (circuit-finding q (surveyed b)) circuit-record 32 (b .circuits) (b .«circuits_numbered»)
 
-  pub few-circuits : length (circuit-findings q (surveyed b)) ≤ 32
-  few-circuits =
-      let few = few-keys 32 (b .circuits) (b .«circuits_numbered») in
-      let even = ordered 32 (b .circuits) (b .«circuits_numbered») .0 in
-      let all = ap length circuits-found ∙ length-map (vals (b .circuits)) (λ c. circuit-finding q (surveyed b) (circuit-record c)) in
-      omega (arith, few, even, all)
-
 -- ---- the whole, one finding after another
 pub record Counted (n sum : ℕ) (rest all : List CircuitFinding) : Type 0 where
   pub circuits : n + closed-count rest ≡ closed-count all
   pub closures : min (sum + closure-sum rest) (2 ^ 64 - 1) ≡ min (closure-sum all) (2 ^ 64 - 1)
 
-pub counted-more : (fs : List CircuitFinding) (i : ℕ) (d : CircuitFinding) (n n′ sum sum′ : ℕ) → i < length fs → n′ ≡ n + cond (getD fs i d .form .closed) 1 0 → sum′ ≡ min (sum + getD fs i d .closure) (2 ^ 64 - 1)
-    → Counted n sum (drop i fs) fs → Counted n′ sum′ (drop (i + 1) fs) fs
-counted-more fs i d n n′ sum sum′ l en es h =
-    let count = at-drop-more closed-count fs i d l in
-    let total = at-drop-more closure-sum fs i d l in
-    record { circuits = omega (arith, h .circuits, count, en); closures = omega (arith, h .closures, total, es) }
-
-pub counted-end : (fs : List CircuitFinding) (i n sum : ℕ) → length fs ≤ i → sum ≤ 2 ^ 64 - 1 → Counted n sum (drop i fs) fs → record { circuits = n; closures = sum } ≡ whole-finding fs
-counted-end fs i n sum l fits h =
-    let count : n ≡ closed-count fs = omega (arith, h .circuits, at-drop-all closed-count fs i l) in
-    let total : sum ≡ min (closure-sum fs) (2 ^ 64 - 1) = omega (arith, h .closures, at-drop-all closure-sum fs i l) in
-    λ i. record { circuits = count i; closures = total i }
-
--- the same over values that are read one after another
 pub counted-turn : {A : Type 0} (g : A → CircuitFinding) (xs ys : List A) (x : A) (f : CircuitFinding) (n n′ sum sum′ : ℕ) (all : List CircuitFinding) → xs ≡ x ∷ ys → f ≡ g x → n′ ≡ n + cond (f .form .closed) 1 0 → sum′ ≡ min (sum + f .closure) (2 ^ 64 - 1)
     → Counted n sum (map g xs) all → Counted n′ sum′ (map g ys) all
 counted-turn g xs ys x f n n′ sum sum′ all turn is en es h =

@@ -5,4 +5,3 @@ pub mod grade;
 mod making;
 mod misses;
 mod path;
-mod whole;

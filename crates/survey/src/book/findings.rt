@@ -2,7 +2,7 @@
 ghost use mathlib.Core.Path.{_≡_};
 ghost use Rattle.records.specs.Circuits.{circuit-record};
 ghost use Rattle.records.specs.Legs.{leg-record};
-ghost use Rattle.plainbook.specs.Findings.{contribution, own-misclosure, joined, circuit-finding};
+ghost use Rattle.plainbook.specs.Findings.{contribution, own-misclosure, joined, circuit-finding, the-whole};
 ghost use Rattle.survey.specs.Books.{surveyed};
 ghost use Rattle.survey.specs.Paths.{closure-where};
 use super::Book;
@@ -15,6 +15,7 @@ use records::leg::Length;
 use records::leg::Running;
 use records::word::Payload;
 use standards::finding::CircuitFinding;
+use standards::finding::WholeFinding;
 
 // Single if either is single.
 fn joined(first: Running, second: Running) -> Running
@@ -83,5 +84,21 @@ impl<Q: Quantity, S> Book<Q, S> {
             closure: self.closure(form.closed, contributions, circuit.due),
             misclosure: self.quantity.size(misclosures),
         }
+    }
+
+    // How many circuits are closed, and the sum of their closures.
+    pub(crate) fn whole(&self) -> WholeFinding
+        ensures { λ r. ⌜ r ≡ the-whole (Q·Quantity .meaning (now (self .entry) .quantity)) (surveyed (now (self .entry))) ⌝ }
+    {
+        let mut circuits = 0;
+        let mut closures: u64 = 0;
+        for circuit in self.circuits.values() {
+            let finding = self.circuit_finding(circuit);
+            if finding.form.closed {
+                circuits += 1;
+            }
+            closures = closures.saturating_add(finding.closure);
+        }
+        WholeFinding { circuits, closures }
     }
 }

@@ -14,7 +14,6 @@ ghost use Rattle.survey.specs.Grades.{Grade-earned};
 use super::Book;
 use crate::grade::Grade;
 use crate::making::refuse;
-use crate::whole::whole_finding;
 use quantities::quantity::Quantity;
 use records::refusal::Fault;
 use records::refusal::FaultFromRefusal;
@@ -66,7 +65,7 @@ impl<Q: Quantity, S: Standard> Book<Q, S> {
         self.check_grade()?;
         let legs = self.leg_findings(heap)?;
         let circuits = self.circuit_findings(heap)?;
-        let whole = whole_finding(&circuits);
+        let whole = self.whole();
         Ok(Grade::of(met(&self.standard, &legs, &circuits, whole)))
     }
 }

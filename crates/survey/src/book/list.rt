@@ -2,7 +2,6 @@
 ghost use mathlib.Core.Path.{_≡_};
 ghost use Prim.Native.Nat.{_+_, _≤_};
 ghost use lib.ListN.{length};
-ghost use Rattle.plainbook.specs.Findings.{the-whole};
 ghost use Rattle.plainbook.specs.Misses.{survey-misses};
 ghost use Rattle.plainbook.specs.Steps.{step, listing, written};
 ghost use Rattle.survey.specs.Books.{plain-book, surveyed, Answers-always, is-listed};
@@ -18,7 +17,6 @@ use records::refusal::Reason;
 use records::refusal::Refusal;
 use standards::class::Class;
 use standards::finding::LegFinding;
-use standards::finding::WholeFinding;
 use standards::gathering::OfCircuits;
 use standards::gathering::OfLegs;
 use standards::gathering::OfWhole;
@@ -88,22 +86,6 @@ impl<Q: Quantity, S: Standard> Book<Q, S> {
             );
         }
         at
-    }
-
-    // How many circuits are closed, and the sum of their closures.
-    fn whole(&self) -> WholeFinding
-        ensures { λ r. ⌜ r ≡ the-whole (Q·Quantity .meaning (now (self .entry) .quantity)) (surveyed (now (self .entry))) ⌝ }
-    {
-        let mut circuits = 0;
-        let mut closures: u64 = 0;
-        for circuit in self.circuits.values() {
-            let finding = self.circuit_finding(circuit);
-            if finding.form.closed {
-                circuits += 1;
-            }
-            closures = closures.saturating_add(finding.closure);
-        }
-        WholeFinding { circuits, closures }
     }
 
     fn count_all(&self, class: Class) -> usize
