@@ -5,6 +5,8 @@ usage: python3 tools/rename.py [--list]     at the top of the repository
 
 A word with hyphens gets underscores (leg-record: leg_record), a type with hyphens is written in one (No-worse: NoWorse).
 Turned are the .antt files, and of the .rt files the contracts and the ghost items alone: code, strings and comments stay.
+The names that the check makes for goals and places have hyphens and keep them: in the proof files of a function a name is
+turned only where specs/, a lemma file, a contract or the file itself declares it.
 --list writes each name with what it becomes, and those that fall together with a name that stands already, and changes nothing.
 """
 
@@ -12,10 +14,13 @@ import os
 import re
 import sys
 
-# an identifier with a hyphen inside it
+# an identifier with a hyphen inside it, and what is before it
 NAME = re.compile(r"(?<![\w'\-◌])([^\W\d_][\w']*(?:-[\w']+)+)(?![\w'\-◌])")
 WORD = re.compile(r"[^\W\d][\w']*")
-CLAUSE = re.compile(r"^\s*(requires|ensures|ghost|decreases|invariant)\b|^\s*//\s*ghost")
+CLAUSE = re.compile(r"^\s*(requires|ensures|ghost|decreases|invariant)\b")
+FIELD = re.compile(r"^\s+pub ([^\W\d_][\w']*(?:-[\w']+)+) :")
+# a lemma in a function's proof file, and no answer
+LEMMA = re.compile(r"^(?:pub |abbrev pub |abbrev )?([^\W\d_][\w']*(?:-[\w']+)+) :(?! goal\.)")
 
 
 def new_name(name):
@@ -33,8 +38,13 @@ def files():
                 yield os.path.join(folder, name)
 
 
+def of_function(path):
+    words = path.split("/")
+    return words[2] == "proofs" and len(words) > 4
+
+
 def parts(path, text):
-    """The text in parts: (whether names in it are turned, the part)."""
+    """The text in parts: (whether names in it may be turned, the part)."""
     for line in text.splitlines(keepends=True):
         if path.endswith(".antt"):
             at = re.search(r"(?:^|\s)--(?:\s|$)", line)
@@ -46,29 +56,54 @@ def parts(path, text):
 
 
 def main():
-    found, standing = {}, set()
+    texts = {}
     for path in files():
         with open(path, encoding="utf-8") as f:
-            text = f.read()
-        out = []
-        for turned, part in parts(path, text):
-            if turned:
-                standing |= set(WORD.findall(NAME.sub(" ", part)))
+            texts[path] = list(parts(path, f.read()))
+    own, fields = {}, set()
+    for path, its in texts.items():
+        if of_function(path):
+            continue
+        for may, part in its:
+            if may:
                 for name in NAME.findall(part):
-                    found.setdefault(name, set()).add(path.split("/")[1])
-                part = NAME.sub(lambda m: new_name(m[1]), part)
+                    own.setdefault(name, set()).add(path.split("/")[1])
+                fields |= set(FIELD.findall(part))
+    turned, standing = {}, set()
+    for path, its in texts.items():
+        here = set()
+        if of_function(path):
+            for may, part in its:
+                here |= set(LEMMA.findall(part)) if may else set()
+
+        def turn(match):
+            name, before = match[1], match.string[max(0, match.start() - 5) : match.start()]
+            if of_function(path):
+                if before.endswith("goal.") or (name not in own and name not in here):
+                    return name
+                if before.endswith(".") and name not in fields:
+                    return name
+                if match.start() == 0 and name not in here:
+                    return name
+            turned.setdefault(name, set()).add(path.split("/")[1])
+            return new_name(name)
+
+        out = []
+        for may, part in its:
+            if may:
+                standing |= set(WORD.findall(NAME.sub(" ", part)))
+                part = NAME.sub(turn, part)
             out.append(part)
-        if "--list" not in sys.argv and "".join(out) != text:
+        if "--list" not in sys.argv:
             with open(path, "w", encoding="utf-8") as f:
                 f.write("".join(out))
     if "--list" in sys.argv:
-        turned = {}
-        for name in sorted(found):
-            turned.setdefault(new_name(name), []).append(name)
-        for name in sorted(found):
-            to = new_name(name)
-            again = to in standing or len(turned[to]) > 1
-            print(("together: " if again else "") + f"{name}: {to}  ({', '.join(sorted(found[name]))})")
+        to = {}
+        for name in sorted(turned):
+            to.setdefault(new_name(name), []).append(name)
+        for name in sorted(turned):
+            again = new_name(name) in standing or len(to[new_name(name)]) > 1
+            print(("together: " if again else "") + f"{name}: {new_name(name)}  ({', '.join(sorted(turned[name]))})")
 
 
 main()

@@ -5,42 +5,42 @@ use Rattle.calls.specs.Carrying.{Seen, Carried, plain_call, reply_seen, outcome_
 use Rattle.calls.proofs.Ways.{seen_as, words_kept, carried, held_kept}
 use Rattle.calls.proofs.carrying.carry_one.Goals as goal
 
-pub returns_in_Open : goal.returns_in_Open
-returns_in_Open g c =
+pub returns-in-Open : goal.returns-in-Open
+returns-in-Open g c =
     let before = plain_book c.args.book.now in
     subst (λ k. (reply_seen c.done.result ≡ outcome_seen (step g.Q.Quantity.meaning g.S.Standard.meaning (plain_call k) before)) × (plain_book c.open.result ≡ (step g.Q.Quantity.meaning g.S.Standard.meaning (plain_call k) before).held))
-    (sym c.in_Open.is) (c.done.ensures, c.open.ensures)
+    (sym c.in-Open.is) (c.done.ensures, c.open.ensures)
 
-pub returns_in_StrikeLeg : goal.returns_in_StrikeLeg
-returns_in_StrikeLeg g c =
+pub returns-in-StrikeLeg : goal.returns-in-StrikeLeg
+returns-in-StrikeLeg g c =
     let before = plain_book c.args.book.now in
-    subst (λ k. (reply_seen c.done_in_StrikeLeg.result ≡ outcome_seen (step g.Q.Quantity.meaning g.S.Standard.meaning (plain_call k) before)) × (plain_book c.strike_leg.new.self ≡ (step g.Q.Quantity.meaning g.S.Standard.meaning (plain_call k) before).held))
-    (sym c.in_StrikeLeg.is) (c.done_in_StrikeLeg.ensures ∙ seen_as c.strike_leg.ensures.0 (sym (words_kept before _ _ _ _)), c.strike_leg.ensures.1)
+    subst (λ k. (reply_seen c.done-in-StrikeLeg.result ≡ outcome_seen (step g.Q.Quantity.meaning g.S.Standard.meaning (plain_call k) before)) × (plain_book c.strike-leg.new.self ≡ (step g.Q.Quantity.meaning g.S.Standard.meaning (plain_call k) before).held))
+    (sym c.in-StrikeLeg.is) (c.done-in-StrikeLeg.ensures ∙ seen_as c.strike-leg.ensures.0 (sym (words_kept before _ _ _ _)), c.strike-leg.ensures.1)
 
-pub returns_in_StrikeCircuit : goal.returns_in_StrikeCircuit
-returns_in_StrikeCircuit g c =
+pub returns-in-StrikeCircuit : goal.returns-in-StrikeCircuit
+returns-in-StrikeCircuit g c =
     let before = plain_book c.args.book.now in
-    subst (λ k. (reply_seen c.done_in_StrikeCircuit.result ≡ outcome_seen (step g.Q.Quantity.meaning g.S.Standard.meaning (plain_call k) before)) × (plain_book c.strike_circuit.new.self ≡ (step g.Q.Quantity.meaning g.S.Standard.meaning (plain_call k) before).held))
-    (sym c.in_StrikeCircuit.is) (c.done_in_StrikeCircuit.ensures ∙ seen_as c.strike_circuit.ensures.0 (sym (words_kept before _ _ _ _)), c.strike_circuit.ensures.1)
+    subst (λ k. (reply_seen c.done-in-StrikeCircuit.result ≡ outcome_seen (step g.Q.Quantity.meaning g.S.Standard.meaning (plain_call k) before)) × (plain_book c.strike-circuit.new.self ≡ (step g.Q.Quantity.meaning g.S.Standard.meaning (plain_call k) before).held))
+    (sym c.in-StrikeCircuit.is) (c.done-in-StrikeCircuit.ensures ∙ seen_as c.strike-circuit.ensures.0 (sym (words_kept before _ _ _ _)), c.strike-circuit.ensures.1)
 
-pub returns_in_Enter : goal.returns_in_Enter
-returns_in_Enter g c =
+pub returns-in-Enter : goal.returns-in-Enter
+returns-in-Enter g c =
     let before = plain_book c.args.book.now in
-    let ws = vec_items c.in_Enter.words in
-    let asked = subst (λ ws. Answers is_done (step g.Q.Quantity.meaning g.S.Standard.meaning (entering ws) before) before (plain_book c.enter_result.new.self) c.enter_result.result) c.deref.ensures.value c.enter_result.ensures in
-    subst (λ k. Carried (step g.Q.Quantity.meaning g.S.Standard.meaning (plain_call k) before) before (plain_book c.enter_result.new.self) c.entered.result) (sym c.in_Enter.is)
-    (carried is_done (step g.Q.Quantity.meaning g.S.Standard.meaning (entering ws) before) before (plain_book c.enter_result.new.self) ws c.enter_result.result c.entered.result asked (words_kept before ws _ _ _) c.entered.ensures)
+    let ws = vec_items c.in-Enter.words in
+    let asked = subst (λ ws. Answers is_done (step g.Q.Quantity.meaning g.S.Standard.meaning (entering ws) before) before (plain_book c.enter-result.new.self) c.enter-result.result) c.deref.ensures.value c.enter-result.ensures in
+    subst (λ k. Carried (step g.Q.Quantity.meaning g.S.Standard.meaning (plain_call k) before) before (plain_book c.enter-result.new.self) c.entered.result) (sym c.in-Enter.is)
+    (carried is_done (step g.Q.Quantity.meaning g.S.Standard.meaning (entering ws) before) before (plain_book c.enter-result.new.self) ws c.enter-result.result c.entered.result asked (words_kept before ws _ _ _) c.entered.ensures)
 
-pub returns_in_Join : goal.returns_in_Join
-returns_in_Join g c =
+pub returns-in-Join : goal.returns-in-Join
+returns-in-Join g c =
     let before = plain_book c.args.book.now in
-    let ws = vec_items c.in_Join.words in
-    let asked = subst (λ ws. Answers is_done (step g.Q.Quantity.meaning g.S.Standard.meaning (joining ws) before) before (plain_book c.join_result.new.self) c.join_result.result) c.deref_in_Join.ensures.value c.join_result.ensures in
-    subst (λ k. Carried (step g.Q.Quantity.meaning g.S.Standard.meaning (plain_call k) before) before (plain_book c.join_result.new.self) c.entered_in_Join.result) (sym c.in_Join.is)
-    (carried is_done (step g.Q.Quantity.meaning g.S.Standard.meaning (joining ws) before) before (plain_book c.join_result.new.self) ws c.join_result.result c.entered_in_Join.result asked (words_kept before ws _ _ _) c.entered_in_Join.ensures)
+    let ws = vec_items c.in-Join.words in
+    let asked = subst (λ ws. Answers is_done (step g.Q.Quantity.meaning g.S.Standard.meaning (joining ws) before) before (plain_book c.join-result.new.self) c.join-result.result) c.deref-in-Join.ensures.value c.join-result.ensures in
+    subst (λ k. Carried (step g.Q.Quantity.meaning g.S.Standard.meaning (plain_call k) before) before (plain_book c.join-result.new.self) c.entered-in-Join.result) (sym c.in-Join.is)
+    (carried is_done (step g.Q.Quantity.meaning g.S.Standard.meaning (joining ws) before) before (plain_book c.join-result.new.self) ws c.join-result.result c.entered-in-Join.result asked (words_kept before ws _ _ _) c.entered-in-Join.ensures)
 
-pub returns_in_Misses : goal.returns_in_Misses
-returns_in_Misses g c =
+pub returns-in-Misses : goal.returns-in-Misses
+returns-in-Misses g c =
     let before = plain_book c.args.book.now in
     subst (λ k. (reply_seen c.listed.result ≡ outcome_seen (step g.Q.Quantity.meaning g.S.Standard.meaning (plain_call k) before)) × (before ≡ (step g.Q.Quantity.meaning g.S.Standard.meaning (plain_call k) before).held))
-    (sym c.in_Misses.is) (c.listed.ensures, sym (held_kept before (vec_items c.in_Misses.words) _ _ _))
+    (sym c.in-Misses.is) (c.listed.ensures, sym (held_kept before (vec_items c.in-Misses.words) _ _ _))

@@ -6,14 +6,14 @@ use Rattle.survey.specs.Books.{surveyed}
 use Rattle.grading.proofs.Collecting.{map_turn, map_end, circuits_found}
 use Rattle.grading.proofs.collect.circuit_findings.Goals as goal
 
-pub loop_circuit_preserved : goal.loop_circuit_preserved
-loop_circuit_preserved g c =
+pub loop-circuit-preserved : goal.loop-circuit-preserved
+loop-circuit-preserved g c =
     let b = c.args.book.now in
     let q = g.Q.Quantity.meaning b.quantity in
-    map_turn (λ x. circuit_finding q (surveyed b) (circuit_record x)) (vec_items c.loop_circuit.findings) c.in_ok_push.ensures.items c.finding_of.ensures c.in_Some.ensures.steps c.loop_circuit.invariant
+    map_turn (λ x. circuit_finding q (surveyed b) (circuit_record x)) (vec_items c.loop-circuit.findings) c.in-ok-push.ensures.items c.finding-of.ensures c.in-Some.ensures.steps c.loop-circuit.invariant
 
 pub returns : goal.returns
 returns g c =
     let b = c.args.book.now in
     let q = g.Q.Quantity.meaning b.quantity in
-    map_end (λ x. circuit_finding q (surveyed b) (circuit_record x)) (vec_items c.loop_circuit.findings) (iter_rest c.loop_circuit.circuit_iterator) c.in_None.ensures.steps.0 c.loop_circuit.invariant ∙ sym (circuits_found q b)
+    map_end (λ x. circuit_finding q (surveyed b) (circuit_record x)) (vec_items c.loop-circuit.findings) (iter_rest c.loop-circuit.circuit-iterator) c.in-None.ensures.steps.0 c.loop-circuit.invariant ∙ sym (circuits_found q b)

@@ -8,7 +8,7 @@ use Rattle.survey.specs.Books.{surveyed}
 use Rattle.grading.proofs.collect.circuit_findings.Given as goal
 
 -- what is pushed, and the findings still to come, are all of them
-abbrev pub invariant_loop_circuit : goal.invariant_loop_circuit
-invariant_loop_circuit g l =
+abbrev pub invariant-loop-circuit : goal.invariant-loop-circuit
+invariant-loop-circuit g l =
     let find = λ (x : Circuit). circuit_finding (g.Q.Quantity.meaning l.book.quantity) (surveyed l.book) (circuit_record x) in
-    vec_items l.findings ++ map find (iter_rest l.circuit_iterator) ≡ map find (values l.book.circuits)
+    vec_items l.findings ++ map find (iter_rest l.circuit-iterator) ≡ map find (values l.book.circuits)

@@ -7,7 +7,7 @@ use Rattle.standards.specs.Observed.{leg_finding}
 use Rattle.grading.proofs.collect.leg_findings.Given as goal
 
 -- what is pushed, and the findings still to come, are all of them
-abbrev pub invariant_loop_leg : goal.invariant_loop_leg
-invariant_loop_leg g l =
+abbrev pub invariant-loop-leg : goal.invariant-loop-leg
+invariant-loop-leg g l =
     let find = λ (x : Leg). leg_finding (g.Q.Quantity.meaning l.book.quantity) (leg_record x) in
-    vec_items l.findings ++ map find (iter_rest l.leg_iterator) ≡ map find (values l.book.legs)
+    vec_items l.findings ++ map find (iter_rest l.leg-iterator) ≡ map find (values l.book.legs)

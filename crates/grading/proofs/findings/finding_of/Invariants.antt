@@ -4,9 +4,9 @@ use Rattle.grading.proofs.Running.{SoFar, runs_of}
 use Rattle.grading.proofs.findings.finding_of.Given as goal
 
 -- what is so far and what is left decide, and what is so far is small
-abbrev pub invariant_loop_used : goal.invariant_loop_used
-invariant_loop_used g l =
+abbrev pub invariant-loop-used : goal.invariant-loop-used
+invariant-loop-used g l =
     SoFar (g.Q.Quantity.meaning l.book.quantity) l.path l.metres l.running l.contributions l.misclosures
-    (runs_of (standing_legs l.book.legs) (drop l.used_index l.used_items)) (runs_of (standing_legs l.book.legs) l.used_items)
-    × (l.metres ≤ l.used_index * (2 ^ 28 - 1))
-    × (l.path.legs ≤ l.used_index)
+    (runs_of (standing_legs l.book.legs) (drop l.used-index l.used-items)) (runs_of (standing_legs l.book.legs) l.used-items)
+    × (l.metres ≤ l.used-index * (2 ^ 28 - 1))
+    × (l.path.legs ≤ l.used-index)

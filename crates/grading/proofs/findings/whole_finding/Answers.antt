@@ -6,18 +6,18 @@ use Rattle.grading.proofs.Collecting.{Counted, counted_turn, counted_all, circui
 use Rattle.survey.proofs.Orders.{few_keys}
 use Rattle.survey.proofs.Tables.{ordered}
 use Rattle.grading.proofs.findings.whole_finding.Goals as goal
-use Rattle.grading.proofs.findings.whole_finding.Goals.{then_finding, else_finding}
+use Rattle.grading.proofs.findings.whole_finding.Goals.{then-finding, else-finding}
 
-pub overflow_add_circuits : goal.overflow_add_circuits
-overflow_add_circuits g c =
-    let small : c.loop_circuit.circuits + 1 ≤ 32 = omega (arith, c.loop_circuit.invariant.1, ap length c.in_Some.ensures.steps) in
+pub overflow-add-circuits : goal.overflow-add-circuits
+overflow-add-circuits g c =
+    let small : c.loop-circuit.circuits + 1 ≤ 32 = omega (arith, c.loop-circuit.invariant.1, ap length c.in-Some.ensures.steps) in
     search rules
 
-pub loop_circuit_init : goal.loop_circuit_init
-loop_circuit_init g c =
+pub loop-circuit-init : goal.loop-circuit-init
+loop-circuit-init g c =
     let b = c.args.book.now in
     let find = circuit_shown (g.Q.Quantity.meaning b.quantity) b in
-    let rest = ap iter_rest c.into_iter_circuit_iterator.ensures.into_iter_gives ∙ c.values_circuit_items.ensures.rest in
+    let rest = ap iter_rest c.into-iter-circuit-iterator.ensures.into-iter-gives ∙ c.values-circuit-items.ensures.rest in
     let few = few_keys 32 b.circuits b.circuits_numbered in
     let even = (ordered 32 b.circuits b.circuits_numbered).0 in (
       subst (λ l. Counted 0 0 (map find l) (map find (values b.circuits))) (sym rest) (record { circuits = omega arith; closures = omega arith }),
@@ -25,22 +25,22 @@ loop_circuit_init g c =
       omega arith,
     )
 
-pub loop_circuit_preserved : goal.loop_circuit_preserved
-loop_circuit_preserved g c =
+pub loop-circuit-preserved : goal.loop-circuit-preserved
+loop-circuit-preserved g c =
     let b = c.args.book.now in
-    let n = c.loop_circuit.circuits in
-    let turn = c.in_Some.ensures.steps in
-    let few : c.if_finding.circuits ≤ n + 1 = elim c.if_finding.branch [ then_finding w ↦ omega (arith, w.circuits_is) | else_finding w ↦ omega (arith, w.circuits_is) ] in (
-      counted_turn (circuit_shown (g.Q.Quantity.meaning b.quantity) b) (iter_rest c.loop_circuit.circuit_iterator) (iter_rest c.next.new.self) c.in_Some.circuit.now c.finding_of_finding.result n c.if_finding.circuits c.loop_circuit.closures c.saturating_add_closures.result _ turn
-          c.finding_of_finding.ensures
-          (elim c.if_finding.branch [ then_finding w ↦ w.circuits_is ∙ sym (ap (λ b. n + cond b 1 0) w.if_finding.true) | else_finding w ↦ w.circuits_is ∙ sym (add_zero n) ∙ sym (ap (λ b. n + cond b 1 0) w.if_finding.false) ])
-          c.saturating_add_closures.ensures c.loop_circuit.invariant.0,
-      omega (arith, few, c.loop_circuit.invariant.1, ap length turn),
-      omega (arith, c.saturating_add_closures.ensures),
+    let n = c.loop-circuit.circuits in
+    let turn = c.in-Some.ensures.steps in
+    let few : c.if-finding.circuits ≤ n + 1 = elim c.if-finding.branch [ then-finding w ↦ omega (arith, w.circuits-is) | else-finding w ↦ omega (arith, w.circuits-is) ] in (
+      counted_turn (circuit_shown (g.Q.Quantity.meaning b.quantity) b) (iter_rest c.loop-circuit.circuit-iterator) (iter_rest c.next.new.self) c.in-Some.circuit.now c.finding-of-finding.result n c.if-finding.circuits c.loop-circuit.closures c.saturating-add-closures.result _ turn
+          c.finding-of-finding.ensures
+          (elim c.if-finding.branch [ then-finding w ↦ w.circuits-is ∙ sym (ap (λ b. n + cond b 1 0) w.if-finding.true) | else-finding w ↦ w.circuits-is ∙ sym (add_zero n) ∙ sym (ap (λ b. n + cond b 1 0) w.if-finding.false) ])
+          c.saturating-add-closures.ensures c.loop-circuit.invariant.0,
+      omega (arith, few, c.loop-circuit.invariant.1, ap length turn),
+      omega (arith, c.saturating-add-closures.ensures),
     )
 
 pub returns : goal.returns
 returns g c =
     let b = c.args.book.now in
     let q = g.Q.Quantity.meaning b.quantity in
-    counted_all (circuit_shown q b) (iter_rest c.loop_circuit.circuit_iterator) c.loop_circuit.circuits c.loop_circuit.closures _ c.in_None.ensures.steps.0 c.loop_circuit.invariant.2 c.loop_circuit.invariant.0 ∙ sym (ap whole_finding (circuits_found q b))
+    counted_all (circuit_shown q b) (iter_rest c.loop-circuit.circuit-iterator) c.loop-circuit.circuits c.loop-circuit.closures _ c.in-None.ensures.steps.0 c.loop-circuit.invariant.2 c.loop-circuit.invariant.0 ∙ sym (ap whole_finding (circuits_found q b))

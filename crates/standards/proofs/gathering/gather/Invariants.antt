@@ -5,14 +5,14 @@ use Rattle.standards.specs.ClassSets.{holds}
 use Rattle.standards.specs.Gathering.{all_meet, meets_first}
 use Rattle.standards.proofs.gathering.gather.Given as goal
 
-abbrev pub invariant_loop_rule : goal.invariant_loop_rule
-invariant_loop_rule g l =
+abbrev pub invariant-loop-rule : goal.invariant-loop-rule
+invariant-loop-rule g l =
     let table = g.F.Finding.table (g.S.Standard.meaning l.standard) in
     (k : Class) → holds l.met k ≡ (meets_first table l.rule l.finding k && holds l.initial.met k)
 
 -- what is met so far, and what is left, decide the answer
-abbrev pub invariant_loop_finding : goal.invariant_loop_finding
-invariant_loop_finding g l =
+abbrev pub invariant-loop-finding : goal.invariant-loop-finding
+invariant-loop-finding g l =
     let table = g.F.Finding.table (g.S.Standard.meaning l.standard) in
-    (l.finding_index ≤ length l.findings)
-    × ((k : Class) → (holds l.met k && all_meet table (drop l.finding_index l.findings) k) ≡ all_meet table l.findings k)
+    (l.finding-index ≤ length l.findings)
+    × ((k : Class) → (holds l.met k && all_meet table (drop l.finding-index l.findings) k) ≡ all_meet table l.findings k)

@@ -5,8 +5,8 @@ use Rattle.records.specs.Words.{word}
 use Rattle.records.proofs.circuit.Circuit.encode.Given as goal
 
 -- the words so far
-abbrev pub invariant_loop_leg_use : goal.invariant_loop_leg_use
-invariant_loop_leg_use l =
+abbrev pub invariant-loop-leg-use : goal.invariant-loop-leg-use
+invariant-loop-leg-use l =
     vec_items l.words
     ≡ word kinds.Circuit (l.self.number.value * 2 ^ 20)
-    ∷ (word kinds.Due l.self.due.bits ∷ map use_word (map use_record (take l.leg_use_index l.leg_use_items)))
+    ∷ (word kinds.Due l.self.due.bits ∷ map use_word (map use_record (take l.leg-use-index l.leg-use-items)))

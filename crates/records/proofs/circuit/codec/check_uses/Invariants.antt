@@ -3,5 +3,5 @@ use Rattle.records.specs.Circuits.{use_unranged}
 use Rattle.records.proofs.circuit.codec.check_uses.Given as goal
 
 -- what is left decides
-abbrev pub invariant_loop_i : goal.invariant_loop_i
-invariant_loop_i l = use_unranged (2 + l.i) (drop l.i l.words) ≡ use_unranged 2 l.words
+abbrev pub invariant-loop-i : goal.invariant-loop-i
+invariant-loop-i l = use_unranged (2 + l.i) (drop l.i l.words) ≡ use_unranged 2 l.words

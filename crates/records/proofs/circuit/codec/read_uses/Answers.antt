@@ -5,21 +5,21 @@ use Rattle.records.specs.Circuits.{use_unranged, use_read}
 use Rattle.records.proofs.Circuits.{read_some, read_is, still_ranged, read_more}
 use Rattle.records.proofs.circuit.codec.read_uses.Goals as goal
 
-pub unreachable_requires : goal.unreachable_requires
-unreachable_requires c =
-    let i = c.loop_word.word_index in
-    let good = still_ranged c.args.words.now i (2 + i) 0 c.loop_word_test.true c.loop_word.invariant.0 in
-    both_ways _ (sym (read_some None _ _ c.in_default.ensures)) good.0
+pub unreachable-requires : goal.unreachable-requires
+unreachable-requires c =
+    let i = c.loop-word.word-index in
+    let good = still_ranged c.args.words.now i (2 + i) 0 c.loop-word-test.true c.loop-word.invariant.0 in
+    both_ways _ (sym (read_some None _ _ c.in-default.ensures)) good.0
 
-pub loop_word_preserved : goal.loop_word_preserved
-loop_word_preserved c =
+pub loop-word-preserved : goal.loop-word-preserved
+loop-word-preserved c =
     let ws = c.args.words.now in
-    let i = c.loop_word.word_index in
-    let good = still_ranged ws i (2 + i) 0 c.loop_word_test.true c.loop_word.invariant.0 in
+    let i = c.loop-word.word-index in
+    let good = still_ranged ws i (2 + i) 0 c.loop-word-test.true c.loop-word.invariant.0 in
     let more : 2 + (i + 1) ≡ suc (2 + i) = omega arith in (
       ap (λ j. use_unranged j (drop (i + 1) ws)) more ∙ good.1,
-      read_more _ _ c.in_Some.leg_use ws i 0 c.loop_word_test.true c.in_ok_push.ensures.items c.loop_word.invariant.1 (read_is c.in_Some.leg_use _ _ c.in_Some.ensures),
+      read_more _ _ c.in-Some.leg-use ws i 0 c.loop-word-test.true c.in-ok-push.ensures.items c.loop-word.invariant.1 (read_is c.in-Some.leg-use _ _ c.in-Some.ensures),
     )
 
 pub returns : goal.returns
-returns c = c.loop_word.invariant.1 ∙ ap (map use_read) (take_all _ _ c.loop_word_test.false)
+returns c = c.loop-word.invariant.1 ∙ ap (map use_read) (take_all _ _ c.loop-word-test.false)

@@ -8,23 +8,23 @@ use Rattle.records.proofs.Layouts.{laid}
 use Rattle.records.proofs.Legs.{accepted, in_range, same_leg, no_back, one_back}
 use Rattle.records.proofs.Ranges.{passed}
 use Rattle.records.proofs.leg.Leg.decode.Goals as goal
-use Rattle.records.proofs.leg.Leg.decode.Goals.{in_empty, in_len1}
+use Rattle.records.proofs.leg.Leg.decode.Goals.{in-empty, in-len1}
 
 pub returns : goal.returns
 returns c =
     let ws = c.args.words.now in
-    let number = passed is_leg_number c.high.result c.in_Some.number.value c.in_Some.ensures in
-    let start = passed is_node c.middle.result c.in_Some_new.start.value c.in_Some_new.ensures in
-    let end = passed is_node c.low.result c.in_Some_new_2.end.value c.in_Some_new_2.ensures in
-    let back : back_read (drop 4 ws) ≡ option_map (λ p. p.bits) c.if_rest_lt1.back = elim c.if_rest_lt1.branch [ in_empty w ↦ no_back ws (search rules) ∙ sym (ap (option_map (λ p. p.bits)) w.back_is) | in_len1 w ↦ one_back ws _ (search rules) w.of_word.ensures ∙ sym (ap (option_map (λ p. p.bits)) w.back_is) ] in
-    sym (accepted ws _ (laid _ _ c.in_ok_check.ensures)
-    (same_leg (sym (number ∙ c.high.ensures ∙ ap (bits 20 8) c.of_word_head.ensures))
-    (sym (start ∙ c.middle.ensures ∙ ap (bits 10 10) c.of_word_head.ensures))
-    (sym (end ∙ c.low.ensures ∙ ap (bits 0 10) c.of_word_head.ensures))
-    (sym c.of_word_2.ensures)
-    (sym c.of_word_metres.ensures)
-    (sym (c.high_a.ensures ∙ ap (bits 20 8) c.of_word_readings.ensures))
-    (sym (c.middle_b.ensures ∙ ap (bits 10 10) c.of_word_readings.ensures))
-    (sym (c.low_c.ensures ∙ ap (bits 0 10) c.of_word_readings.ensures))
+    let number = passed is_leg_number c.high.result c.in-Some.number.value c.in-Some.ensures in
+    let start = passed is_node c.middle.result c.in-Some-new.start.value c.in-Some-new.ensures in
+    let end = passed is_node c.low.result c.in-Some-new-2.end.value c.in-Some-new-2.ensures in
+    let back : back_read (drop 4 ws) ≡ option_map (λ p. p.bits) c.if-rest-lt1.back = elim c.if-rest-lt1.branch [ in-empty w ↦ no_back ws (search rules) ∙ sym (ap (option_map (λ p. p.bits)) w.back-is) | in-len1 w ↦ one_back ws _ (search rules) w.of-word.ensures ∙ sym (ap (option_map (λ p. p.bits)) w.back-is) ] in
+    sym (accepted ws _ (laid _ _ c.in-ok-check.ensures)
+    (same_leg (sym (number ∙ c.high.ensures ∙ ap (bits 20 8) c.of-word-head.ensures))
+    (sym (start ∙ c.middle.ensures ∙ ap (bits 10 10) c.of-word-head.ensures))
+    (sym (end ∙ c.low.ensures ∙ ap (bits 0 10) c.of-word-head.ensures))
+    (sym c.of-word-2.ensures)
+    (sym c.of-word-metres.ensures)
+    (sym (c.high-a.ensures ∙ ap (bits 20 8) c.of-word-readings.ensures))
+    (sym (c.middle-b.ensures ∙ ap (bits 10 10) c.of-word-readings.ensures))
+    (sym (c.low-c.ensures ∙ ap (bits 0 10) c.of-word-readings.ensures))
     back)
-    (in_range c.in_Some.number.value c.in_Some_new.start.value c.in_Some_new_2.end.value c.in_Some.number.ranged c.in_Some_new.start.ranged c.in_Some_new_2.end.ranged (ne_eqb _ _ c.if_start_end.false)))
+    (in_range c.in-Some.number.value c.in-Some-new.start.value c.in-Some-new-2.end.value c.in-Some.number.ranged c.in-Some-new.start.ranged c.in-Some-new-2.end.ranged (ne_eqb _ _ c.if-start-end.false)))

@@ -6,7 +6,7 @@ pub returns : goal.returns
 returns c =
     record {
       members =
-          packed_bit c.args.passed c.from.ensures c.from_2.ensures c.from_3.ensures c.from_4.ensures
-          c.from_5.ensures;
+          packed_bit c.args.passed c.from.ensures c.from-2.ensures c.from-3.ensures c.from-4.ensures
+          c.from-5.ensures;
       only = sets_by_members;
     }

@@ -13,24 +13,24 @@ use Rattle.survey.proofs.Soundness.{sound, chained, read_sets}
 use Rattle.survey.proofs.Strikes.{circuit_absent, circuit_stands}
 use Rattle.survey.proofs.book.Book.strike_circuit.Goals as goal
 
-pub returns_then_not_contains_key : goal.returns_then_not_contains_key
-returns_then_not_contains_key g c =
+pub returns-then-not-contains-key : goal.returns-then-not-contains-key
+returns-then-not-contains-key g c =
     let b = c.args.self.now in
     let n = c.args.number in
     let q = g.Q.Quantity.meaning b.quantity in
     let s = g.S.Standard.meaning b.standard in
-    let given = was_given _ n _ c.in_ok_number.ensures in
-    let absent = mapped_isSome circuit_record (table b.circuits n) ∙ sym (c.contains_key.ensures.finds n (sym given.1) (ordered 32 b.circuits b.circuits_numbered)) ∙ c.if_not_contains_key.true in
+    let given = was_given _ n _ c.in-ok-number.ensures in
+    let absent = mapped_isSome circuit_record (table b.circuits n) ∙ sym (c.contains-key.ensures.finds n (sym given.1) (ordered 32 b.circuits b.circuits_numbered)) ∙ c.if-not-contains-key.true in
     refuses_always is_done (plain_book b) [] done (with_circuit (surveyed b) n None) [] (first (strike_circuit_refusals q s (surveyed b) n)) _
     (circuit_absent q s (surveyed b) n given.0 absent ∙ ap Some (sym c.refuse.ensures))
 
-pub invariant_of_self : goal.invariant_of_self
-invariant_of_self g c =
+pub invariant-of-self : goal.invariant-of-self
+invariant-of-self g c =
     let b = c.args.self.now in
     let n = c.args.number in
     let q = g.Q.Quantity.meaning b.quantity in
     let s = g.S.Standard.meaning b.standard in
-    let given = was_given _ n _ c.in_ok_number.ensures in
+    let given = was_given _ n _ c.in-ok-number.ensures in
     let after = c.remove.new.self in
     let sets = c.remove.ensures.sets n (sym given.1) in
     let numbered = numbered_removed 32 b.circuits after n sets b.circuits_numbered in (
@@ -53,10 +53,10 @@ returns g c =
     let n = c.args.number in
     let q = g.Q.Quantity.meaning b.quantity in
     let s = g.S.Standard.meaning b.standard in
-    let given = was_given _ n _ c.in_ok_number.ensures in
+    let given = was_given _ n _ c.in-ok-number.ensures in
     let after = c.remove.new.self in
     let sets = c.remove.ensures.sets n (sym given.1) in
-    let stands = mapped_isSome circuit_record (table b.circuits n) ∙ sym (c.contains_key.ensures.finds n (sym given.1) (ordered 32 b.circuits b.circuits_numbered)) ∙ c.if_not_contains_key.false in
+    let stands = mapped_isSome circuit_record (table b.circuits n) ∙ sym (c.contains-key.ensures.finds n (sym given.1) (ordered 32 b.circuits b.circuits_numbered)) ∙ c.if-not-contains-key.false in
     let circuits = read_sets circuit_record 32 b.circuits after n None sets b.circuits_numbered in
     answers_always is_done (plain_book b) [] done (with_circuit (surveyed b) n None) [] (first (strike_circuit_refusals q s (surveyed b) n)) tt _
     (circuit_stands q s (surveyed b) n given.0 stands) refl

@@ -14,40 +14,40 @@ use Rattle.survey.proofs.Soundness.{sound, chained, read_sets}
 use Rattle.survey.proofs.Strikes.{leg_absent, leg_used}
 use Rattle.survey.proofs.book.Book.strike_leg.Goals as goal
 
-pub returns_then_not_contains_key : goal.returns_then_not_contains_key
-returns_then_not_contains_key g c =
+pub returns-then-not-contains-key : goal.returns-then-not-contains-key
+returns-then-not-contains-key g c =
     let b = c.args.self.now in
     let n = c.args.number in
     let q = g.Q.Quantity.meaning b.quantity in
     let s = g.S.Standard.meaning b.standard in
-    let given = was_given _ n _ c.in_ok_number.ensures in
-    let absent = mapped_isSome leg_record (table b.legs n) ∙ sym (c.contains_key.ensures.finds n (sym given.1) (ordered 128 b.legs b.legs_numbered)) ∙ c.if_not_contains_key.true in
+    let given = was_given _ n _ c.in-ok-number.ensures in
+    let absent = mapped_isSome leg_record (table b.legs n) ∙ sym (c.contains-key.ensures.finds n (sym given.1) (ordered 128 b.legs b.legs_numbered)) ∙ c.if-not-contains-key.true in
     refuses_always is_done (plain_book b) [] done (with_leg (surveyed b) n None) [] (first (strike_leg_refusals q s (surveyed b) n)) _
     (leg_absent q s (surveyed b) n given.0 absent ∙ ap Some (sym c.refuse.ensures))
 
-pub returns_in_Some : goal.returns_in_Some
-returns_in_Some g c =
+pub returns-in-Some : goal.returns-in-Some
+returns-in-Some g c =
     let b = c.args.self.now in
     let n = c.args.number in
     let q = g.Q.Quantity.meaning b.quantity in
     let s = g.S.Standard.meaning b.standard in
-    let given = was_given _ n _ c.in_ok_number.ensures in
-    let stands = mapped_isSome leg_record (table b.legs n) ∙ sym (c.contains_key.ensures.finds n (sym given.1) (ordered 128 b.legs b.legs_numbered)) ∙ c.if_not_contains_key.false in
-    let used = ap (user (surveyed b)) (sym given.1) ∙ sym c.in_Some.ensures in
+    let given = was_given _ n _ c.in-ok-number.ensures in
+    let stands = mapped_isSome leg_record (table b.legs n) ∙ sym (c.contains-key.ensures.finds n (sym given.1) (ordered 128 b.legs b.legs_numbered)) ∙ c.if-not-contains-key.false in
+    let used = ap (user (surveyed b)) (sym given.1) ∙ sym c.in-Some.ensures in
     refuses_always is_done (plain_book b) [] done (with_leg (surveyed b) n None) [] (first (strike_leg_refusals q s (surveyed b) n)) _
-    (leg_used q s (surveyed b) n given.0 (Some c.in_Some.circuit) stands used ∙ ap Some (sym c.refuse_in_Some.ensures))
+    (leg_used q s (surveyed b) n given.0 (Some c.in-Some.circuit) stands used ∙ ap Some (sym c.refuse-in-Some.ensures))
 
-pub invariant_of_self : goal.invariant_of_self
-invariant_of_self g c =
+pub invariant-of-self : goal.invariant-of-self
+invariant-of-self g c =
     let b = c.args.self.now in
     let n = c.args.number in
     let q = g.Q.Quantity.meaning b.quantity in
     let s = g.S.Standard.meaning b.standard in
-    let given = was_given _ n _ c.in_ok_number.ensures in
+    let given = was_given _ n _ c.in-ok-number.ensures in
     let after = c.remove.new.self in
     let sets = c.remove.ensures.sets n (sym given.1) in
-    let stands = mapped_isSome leg_record (table b.legs n) ∙ sym (c.contains_key.ensures.finds n (sym given.1) (ordered 128 b.legs b.legs_numbered)) ∙ c.if_not_contains_key.false in
-    let unused = ap (user (surveyed b)) (sym given.1) ∙ sym c.in_default.ensures in
+    let stands = mapped_isSome leg_record (table b.legs n) ∙ sym (c.contains-key.ensures.finds n (sym given.1) (ordered 128 b.legs b.legs_numbered)) ∙ c.if-not-contains-key.false in
+    let unused = ap (user (surveyed b)) (sym given.1) ∙ sym c.in-default.ensures in
     let free = leg_used q s (surveyed b) n given.0 None stands unused in (
       numbered_removed 128 b.legs after n sets b.legs_numbered,
       (
@@ -68,11 +68,11 @@ returns g c =
     let n = c.args.number in
     let q = g.Q.Quantity.meaning b.quantity in
     let s = g.S.Standard.meaning b.standard in
-    let given = was_given _ n _ c.in_ok_number.ensures in
+    let given = was_given _ n _ c.in-ok-number.ensures in
     let after = c.remove.new.self in
     let sets = c.remove.ensures.sets n (sym given.1) in
-    let stands = mapped_isSome leg_record (table b.legs n) ∙ sym (c.contains_key.ensures.finds n (sym given.1) (ordered 128 b.legs b.legs_numbered)) ∙ c.if_not_contains_key.false in
-    let unused = ap (user (surveyed b)) (sym given.1) ∙ sym c.in_default.ensures in
+    let stands = mapped_isSome leg_record (table b.legs n) ∙ sym (c.contains-key.ensures.finds n (sym given.1) (ordered 128 b.legs b.legs_numbered)) ∙ c.if-not-contains-key.false in
+    let unused = ap (user (surveyed b)) (sym given.1) ∙ sym c.in-default.ensures in
     let legs = read_sets leg_record 128 b.legs after n None sets b.legs_numbered in
     answers_always is_done (plain_book b) [] done (with_leg (surveyed b) n None) [] (first (strike_leg_refusals q s (surveyed b) n)) tt _
     (leg_used q s (surveyed b) n given.0 None stands unused) refl

@@ -4,5 +4,5 @@ use Rattle.plainbook.specs.Surveys.{names}
 use Rattle.survey.proofs.book.chain.names.Given as goal
 
 -- what is left decides
-abbrev pub invariant_loop_word : goal.invariant_loop_word
-invariant_loop_word l = names l.leg (map use_read (drop l.word_index l.words)) ≡ names l.leg (map use_read l.words)
+abbrev pub invariant-loop-word : goal.invariant-loop-word
+invariant-loop-word l = names l.leg (map use_read (drop l.word-index l.words)) ≡ names l.leg (map use_read l.words)
