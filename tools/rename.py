@@ -6,7 +6,7 @@ usage: python3 tools/rename.py [--list]     at the top of the repository
 A word with hyphens gets underscores (leg-record: leg_record), a type with hyphens is written in one (No-worse: NoWorse).
 Turned are the .antt files, and of the .rt files the contracts and the ghost items alone: code, strings and comments stay.
 The names that the check makes for goals and places have hyphens and keep them: in the proof files of a function a name is
-turned only where specs/, a lemma file, a contract or the file itself declares it.
+turned only where specs/, a lemma file, a contract or the file itself declares it. So do names that a file takes from the kit.
 --list writes each name with what it becomes, and those that fall together with a name that stands already, and changes nothing.
 """
 
@@ -19,6 +19,8 @@ NAME = re.compile(r"(?<![\w'\-◌])([^\W\d_][\w']*(?:-[\w']+)+)(?![\w'\-◌])")
 WORD = re.compile(r"[^\W\d][\w']*")
 CLAUSE = re.compile(r"^\s*(requires|ensures|ghost|decreases|invariant)\b")
 FIELD = re.compile(r"^\s+pub ([^\W\d_][\w']*(?:-[\w']+)+) :")
+# names that a file takes from a crate
+TAKEN = re.compile(r"^\s*(?:ghost )?use Rattle\.(\w+)\.[\w.'+]*\.\{([^}]*)\}", re.M)
 # a lemma in a function's proof file, and no answer
 LEMMA = re.compile(r"^(?:pub |abbrev pub |abbrev )?([^\W\d_][\w']*(?:-[\w']+)+) :(?! goal\.)")
 
@@ -36,6 +38,16 @@ def files():
         for name in sorted(names):
             if name.endswith((".antt", ".rt")):
                 yield os.path.join(folder, name)
+
+
+def of_kit(its):
+    """The names that a file takes from the kit."""
+    own = set(os.listdir("crates"))
+    taken = set()
+    for crate, names in TAKEN.findall("".join(part for _, part in its)):
+        if crate not in own:
+            taken |= {name.split(" as ")[-1].strip() for name in names.split(",")}
+    return taken
 
 
 def of_function(path):
@@ -61,12 +73,13 @@ def main():
         with open(path, encoding="utf-8") as f:
             texts[path] = list(parts(path, f.read()))
     own, fields = {}, set()
+    kit = {path: of_kit(its) for path, its in texts.items()}
     for path, its in texts.items():
         if of_function(path):
             continue
         for may, part in its:
             if may:
-                for name in NAME.findall(part):
+                for name in set(NAME.findall(part)) - kit[path]:
                     own.setdefault(name, set()).add(path.split("/")[1])
                 fields |= set(FIELD.findall(part))
     turned, standing = {}, set()
@@ -77,6 +90,8 @@ def main():
                 here |= set(LEMMA.findall(part)) if may else set()
 
         def turn(match):
+            if match[1] in kit[path]:
+                return match[1]
             name, before = match[1], match.string[max(0, match.start() - 5) : match.start()]
             if of_function(path):
                 if before.endswith("goal.") or (name not in own and name not in here):

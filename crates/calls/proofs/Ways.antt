@@ -1,6 +1,6 @@
 -- Calls carried out one after another. Assumes nothing.
 use Rattle.std.proofs.Common.{◌≡◌, ℕ, suc, ◌+◌, ◌<◌, ◌≤◌, List, [], ◌∷◌, ◌++◌, map, length, take, drop, Some, None, Ok, Err, Option, Result, sym, refl, ap, ◌∙◌, subst, ap₂, arith}
-use Rattle.std.proofs.lemmas.List.{length_append, length_map, map_append, append_assoc, take_at}
+use Rattle.std.proofs.lemmas.List.{length-append, length-map, map-append, append_assoc, take_at}
 use Rattle.std.specs.declared.alloc.AllocError.{AllocError}
 use Rattle.records.specs.declared.refusal.Refusal.{Refusal}
 use Rattle.records.specs.declared.refusal.Fault.{Fault}
@@ -67,16 +67,16 @@ module _ {Q S Element : Type 0} (terms : Q → Terms Element) (rules : S → Rul
   one_more calls before now_held after replies replies' call left reply so shown stands pushed =
       let past = so.past in
       let new = past ++ (call ∷ []) in
-      let calls_new : map plain_call new ≡ map plain_call past ++ (plain_call call ∷ []) = map_append plain_call past (call ∷ []) in
+      let calls_new : map plain_call new ≡ map plain_call past ++ (plain_call call ∷ []) = map-append plain_call past (call ∷ []) in
       record {
         past = new;
         all = so.all ∙ sym (append_assoc past (call ∷ []) left);
-        count = ap length pushed ∙ length_append replies (reply ∷ []) ∙ ap (λ n. n + 1) so.count ∙ sym (length_append past (call ∷ []));
+        count = ap length pushed ∙ length-append replies (reply ∷ []) ∙ ap (λ n. n + 1) so.count ∙ sym (length-append past (call ∷ []));
         replied =
             ap (map reply_seen) pushed
-            ∙ map_append reply_seen replies (reply ∷ [])
+            ∙ map-append reply_seen replies (reply ∷ [])
             ∙ ap₂ (λ xs x. xs ++ (x ∷ [])) so.replied (shown ∙ ap (λ h. outcome_seen (step terms rules (plain_call call) h)) so.held)
-            ∙ sym (map_append outcome_seen (outcomes terms rules before (map plain_call past)) (step terms rules (plain_call call) (run terms rules before (map plain_call past)) ∷ []))
+            ∙ sym (map-append outcome_seen (outcomes terms rules before (map plain_call past)) (step terms rules (plain_call call) (run terms rules before (map plain_call past)) ∷ []))
             ∙ ap (map outcome_seen) (sym (ap (outcomes terms rules before) calls_new ∙ outcomes_append before (map plain_call past) (plain_call call ∷ [])));
         held =
             stands
@@ -94,13 +94,13 @@ module _ {Q S Element : Type 0} (terms : Q → Terms Element) (rules : S → Rul
   pub stopped : (calls : List (Call Q S)) (before after : Held Q S) (replies : List Reply) (left : List (Call Q S)) → SoFar calls before after replies left → CarriedOut terms rules calls before after replies
   stopped calls before after replies left so =
       let past = so.past in
-      let front : map plain_call calls ≡ map plain_call past ++ map plain_call left = ap (map plain_call) so.all ∙ map_append plain_call past left in
-      let n : length replies ≡ length (map plain_call past) = so.count ∙ sym (length_map past plain_call) in
+      let front : map plain_call calls ≡ map plain_call past ++ map plain_call left = ap (map plain_call) so.all ∙ map-append plain_call past left in
+      let n : length replies ≡ length (map plain_call past) = so.count ∙ sym (length-map past plain_call) in
       let shown : map outcome_seen (outcomes terms rules before (map plain_call calls)) ≡ map outcome_seen (outcomes terms rules before (map plain_call past)) ++ map outcome_seen (outcomes terms rules (run terms rules before (map plain_call past)) (map plain_call left)) =
-      ap (λ cs. map outcome_seen (outcomes terms rules before cs)) front ∙ ap (map outcome_seen) (outcomes_append before (map plain_call past) (map plain_call left)) ∙ map_append outcome_seen (outcomes terms rules before (map plain_call past)) _ in
-      let m : length replies ≡ length (map outcome_seen (outcomes terms rules before (map plain_call past))) = n ∙ sym (length_map _ outcome_seen ∙ length_outcomes before (map plain_call past)) in
+      ap (λ cs. map outcome_seen (outcomes terms rules before cs)) front ∙ ap (map outcome_seen) (outcomes_append before (map plain_call past) (map plain_call left)) ∙ map-append outcome_seen (outcomes terms rules before (map plain_call past)) _ in
+      let m : length replies ≡ length (map outcome_seen (outcomes terms rules before (map plain_call past))) = n ∙ sym (length-map _ outcome_seen ∙ length_outcomes before (map plain_call past)) in
       record {
-        count = omega (arith, so.count, ap length so.all, length_append past left);
+        count = omega (arith, so.count, ap length so.all, length-append past left);
         seen_all = so.replied ∙ sym (ap (take (length replies)) shown ∙ take_front (length replies) _ _ m);
         held = so.held ∙ ap (run terms rules before) (sym (ap (take (length replies)) front ∙ take_front (length replies) (map plain_call past) (map plain_call left) n));
       }

@@ -1,5 +1,5 @@
 -- Findings collected, one for each value of a map. Assumes nothing.
-use Rattle.std.proofs.Common.{◌≡◌, ℕ, ◌+◌, ◌-◌, ◌^◌, ◌≤◌, min, Bool, true, false, cond, List, [], ◌∷◌, ◌++◌, map, length, Option, sym, refl, ap, ◌∙◌, append_assoc, append_nil, arith}
+use Rattle.std.proofs.Common.{◌≡◌, ℕ, ◌+◌, ◌-◌, ◌^◌, ◌≤◌, min, Bool, true, false, cond, List, [], ◌∷◌, ◌++◌, map, length, Option, sym, refl, ap, ◌∙◌, append_assoc, append-nil, arith}
 use Rattle.std.specs.BTreeMap.{BTreeMap}
 use Rattle.std.specs.BTreeMap.{values}
 use Rattle.std.specs.List.{range_with_len}
@@ -26,7 +26,7 @@ map_turn f vs {ys = ys} {x = x} pushed is turn inv =
     ap (λ us. us ++ map f ys) (pushed ∙ ap (λ y. vs ++ y ∷ []) is) ∙ append_assoc vs (f x ∷ []) (map f ys) ∙ ap (λ us. vs ++ map f us) (sym turn) ∙ inv
 
 pub map_end : {A B : Type 0} (f : A → B) (vs : List B) (xs : List A) {all : List B} → length xs ≡ 0 → vs ++ map f xs ≡ all → vs ≡ all
-map_end f vs xs none inv = sym (append_nil vs) ∙ ap (λ us. vs ++ map f us) (sym (nil_from_length xs none)) ∙ inv
+map_end f vs xs none inv = sym (append-nil vs) ∙ ap (λ us. vs ++ map f us) (sym (nil_from_length xs none)) ∙ inv
 
 map_twice : {A B C : Type 0} (f : B → C) (g : A → B) (xs : List A) → map f (map g xs) ≡ map (λ x. f (g x)) xs
 map_twice f g [] = refl

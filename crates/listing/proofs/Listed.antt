@@ -1,6 +1,6 @@
 -- What misses answers, and the words that it leaves. Assumes nothing.
 use Rattle.std.proofs.Common.{◌≡◌, ℕ, ◌+◌, ◌<◌, ◌≤◌, Bool, true, false, not, ltb, List, [], ◌∷◌, ◌++◌, length, drop, is_some, Some, None, Ok, Err, Option, sym, refl, ap, ◌∙◌, ap₂, arith}
-use Rattle.std.proofs.lemmas.List.{append_assoc, length_append}
+use Rattle.std.proofs.lemmas.List.{append_assoc, length-append}
 use Rattle.records.specs.declared.refusal.Reason.TheVariants.{NoClass, TooFew}
 use Rattle.records.specs.declared.refusal.Refusal.{Refusal}
 use Rattle.records.specs.Refusals.{first}
@@ -66,8 +66,8 @@ module _ (a b w ws ws₁ ws₂ ws₃ : List ℕ) (n m r : ℕ) (first_end : n �
   pub all_put : ws₃ ≡ put m w ws₂ → ws₃ ≡ put 0 (a ++ (b ++ w)) ws
   all_put third_put =
       let both : ws₂ ≡ put 0 (a ++ b) ws = second_put ∙ ap₂ (λ n v. put n b v) first_end first_put ∙ put_put 0 a b ws in
-      let next : m ≡ 0 + length (a ++ b) = omega (arith, first_end, second_end, length_append a b) in
+      let next : m ≡ 0 + length (a ++ b) = omega (arith, first_end, second_end, length-append a b) in
       third_put ∙ ap₂ (λ n v. put n w v) next both ∙ put_put 0 (a ++ b) w ws ∙ ap (λ l. put 0 l ws) (append_assoc a b w)
 
   pub all_end : r ≡ m + length w → r ≡ length (a ++ (b ++ w))
-  all_end e = omega (arith, e, first_end, second_end, length_append a (b ++ w), length_append b w)
+  all_end e = omega (arith, e, first_end, second_end, length-append a (b ++ w), length-append b w)

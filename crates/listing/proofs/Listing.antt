@@ -1,5 +1,5 @@
 -- Rule by rule through an item's misses. Assumes nothing.
-use Rattle.std.proofs.Common.{◌≡◌, ℕ, suc, ◌+◌, ◌-◌, ◌<◌, ◌≤◌, Bool, true, false, cond, List, [], ◌∷◌, ◌++◌, length, sym, refl, ap, ◌∙◌, ap₂, add_one, arith}
+use Rattle.std.proofs.Common.{◌≡◌, ℕ, suc, ◌+◌, ◌-◌, ◌<◌, ◌≤◌, Bool, true, false, cond, List, [], ◌∷◌, ◌++◌, length, sym, refl, ap, ◌∙◌, ap₂, add-one, arith}
 use Rattle.standards.specs.declared.class.Class.{Class}
 use Rattle.standards.specs.declared.finding.Directions.{Directions}
 use Rattle.standards.specs.NoWorse.{Kind}
@@ -17,7 +17,7 @@ module _ {Finding : Type 0} {kind : Kind Finding} {better : Directions} (table :
   next =
       let more : table.count - rule ≡ suc (table.count - (rule + 1)) = omega arith in
       ap (rule_misses table k place item f rule) more
-      ∙ ap (λ r. cond (table.meets rule f k) (rule_misses table k place item f r (table.count - (rule + 1))) (miss_word k place (suc rule) item ∷ rule_misses table k place item f r (table.count - (rule + 1)))) (sym (add_one rule))
+      ∙ ap (λ r. cond (table.meets rule f k) (rule_misses table k place item f r (table.count - (rule + 1))) (miss_word k place (suc rule) item ∷ rule_misses table k place item f r (table.count - (rule + 1)))) (sym (add-one rule))
 
   pub next_met : table.meets rule f k ≡ true → left table k place item f rule ≡ left table k place item f (rule + 1)
   next_met e = next ∙ ap (λ b. cond b (left table k place item f (rule + 1)) (miss_word k place (suc rule) item ∷ left table k place item f (rule + 1))) e

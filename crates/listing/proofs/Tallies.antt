@@ -5,8 +5,8 @@ use Rattle.std.specs.declared.alloc.Global.{Global}
 use Rattle.std.specs.BTreeMap.{keys, values}
 use Rattle.std.specs.List.{range_with_len, flat_map}
 use Rattle.std.specs.Option.{option_map, option_to_list}
-use Rattle.std.proofs.lemmas.List.{append_nil, length_append, nil_from_length}
-use Rattle.std.proofs.lemmas.Bool.{eqb_true}
+use Rattle.std.proofs.lemmas.List.{append-nil, length-append, nil_from_length}
+use Rattle.std.proofs.lemmas.Bool.{eqb-true}
 use Rattle.records.specs.declared.circuit.Circuit.{Circuit}
 use Rattle.records.specs.declared.leg.Leg.{Leg}
 use Rattle.records.specs.Circuits.{circuit_record}
@@ -51,7 +51,7 @@ module _ {Finding : Type 0} {kind : Kind Finding} {better : Directions} (rules :
 
     pub joined_few : (xs : List X) → length (flat_map listing xs) ≤ 255 * length xs
     joined_few [] = omega arith
-    joined_few (x ∷ xs) = omega (arith, length_append (listing x) (flat_map listing xs), listing_few x, joined_few xs)
+    joined_few (x ∷ xs) = omega (arith, length-append (listing x) (flat_map listing xs), listing_few x, joined_few xs)
 
     misses_joined : (t : ℕ → Option X) → ((n : ℕ) (x : X) → t n ≡ Some x → num x ≡ n) → (ns : List ℕ) → misses_of rules k place (λ n. option_map f (option_map g (t n))) ns ≡ flat_map listing (standing t ns)
     misses_joined t own [] = refl
@@ -79,7 +79,7 @@ module _ {X : Type 0} (list : X → List ℕ) where
       → SoFar list xs all at start ws before → SoFar list ys all end start after before
   so_far_turn xs ys all x at end start ws after before turn is wrote h =
       record {
-        end = omega (arith, is, ap (λ l. length (flat_map list l)) turn, length_append (list x) (flat_map list ys), h.end);
+        end = omega (arith, is, ap (λ l. length (flat_map list l)) turn, length-append (list x) (flat_map list ys), h.end);
         words = ap₂ (λ n v. put n (flat_map list ys) v) is wrote ∙ put_put at (list x) (flat_map list ys) ws ∙ ap (λ l. put at (flat_map list l) ws) (sym turn) ∙ h.words;
       }
 
@@ -100,12 +100,12 @@ module _ {Q S Element : Type 0} (q : Terms Element) (s : Rules) (b : Book Q S) (
   pub legs_joined : leg_misses q s (surveyed b) k ≡ flat_map leg_listing (values b.legs)
   unfolding leg_numbers
   legs_joined =
-      map_joined s.legs k leg_place (λ l. l.number.value) leg_record (leg_finding q) 128 b.legs b.legs_numbered (λ n l e. eqb_true _ n (passed _ (every_at own_leg b.legs b.own_legs n l e)))
+      map_joined s.legs k leg_place (λ l. l.number.value) leg_record (leg_finding q) 128 b.legs b.legs_numbered (λ n l e. eqb-true _ n (passed _ (every_at own_leg b.legs b.own_legs n l e)))
 
   pub circuits_joined : circuit_misses q s (surveyed b) k ≡ flat_map circuit_listing (values b.circuits)
   unfolding circuit_numbers
   circuits_joined =
-      map_joined s.circuits k circuit_place (λ c. c.number.value) circuit_record (circuit_finding q (surveyed b)) 32 b.circuits b.circuits_numbered (λ n c e. eqb_true _ n (passed _ (every_at own_circuit b.circuits b.own_circuits n c e)))
+      map_joined s.circuits k circuit_place (λ c. c.number.value) circuit_record (circuit_finding q (surveyed b)) 32 b.circuits b.circuits_numbered (λ n c e. eqb-true _ n (passed _ (every_at own_circuit b.circuits b.own_circuits n c e)))
 
   pub legs_few : length (flat_map leg_listing (values b.legs)) ≤ 32640
   legs_few =
@@ -118,4 +118,4 @@ module _ {Q S Element : Type 0} (q : Terms Element) (s : Rules) (b : Book Q S) (
   pub all_few : length (survey_misses q s (surveyed b) k) ≤ 41055
   all_few =
       let p = surveyed b in
-      omega (arith, length_append (leg_misses q s p k) (circuit_misses q s p k ++ whole_misses q s p k), length_append (circuit_misses q s p k) (whole_misses q s p k), ap length legs_joined, legs_few, ap length circuits_joined, circuits_few, rules_few s.whole k whole_place 0 (the_whole q p) 0 s.whole.count, s.whole.few)
+      omega (arith, length-append (leg_misses q s p k) (circuit_misses q s p k ++ whole_misses q s p k), length-append (circuit_misses q s p k) (whole_misses q s p k), ap length legs_joined, legs_few, ap length circuits_joined, circuits_few, rules_few s.whole k whole_place 0 (the_whole q p) 0 s.whole.count, s.whole.few)

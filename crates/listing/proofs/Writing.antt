@@ -1,5 +1,5 @@
 -- Words put in their place one after another, as far as there are words. Assumes nothing.
-use Rattle.std.proofs.Common.{◌≡◌, ℕ, zero, suc, ◌+◌, ◌<◌, ◌≤◌, List, [], ◌∷◌, ◌++◌, length, drop, set, sym, refl, ap, ◌∙◌, ap₂, add_one, arith}
+use Rattle.std.proofs.Common.{◌≡◌, ℕ, zero, suc, ◌+◌, ◌<◌, ◌≤◌, List, [], ◌∷◌, ◌++◌, length, drop, set, sym, refl, ap, ◌∙◌, ap₂, add-one, arith}
 use Rattle.plainbook.specs.Steps.{written}
 use Rattle.listing.specs.Writing.{put}
 
@@ -15,7 +15,7 @@ put_beyond (suc at) new (w ∷ ws) h = ap (λ xs. w ∷ xs) (put_beyond at new w
 
 -- the first of the words to be put, written
 pub put_one : (at w : ℕ) (rest ws : List ℕ) → at < length ws → put (at + 1) rest (set ws at w) ≡ put at (w ∷ rest) ws
-put_one at w rest ws h = ap (λ n. put n rest (set ws at w)) (add_one at) ∙ go at ws h
+put_one at w rest ws h = ap (λ n. put n rest (set ws at w)) (add-one at) ∙ go at ws h
   where
     go : (at : ℕ) (ws : List ℕ) → at < length ws → put (suc at) rest (set ws at w) ≡ put at (w ∷ rest) ws
     go at [] h = absurd (omega arith)

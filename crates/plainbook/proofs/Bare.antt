@@ -1,7 +1,7 @@
 -- Runs without their legs' numbers: nothing that is found rests on a number. Assumes nothing.
 use Rattle.std.proofs.Common.{◌≡◌, ℕ, ◌+◌, cond, eqb, List, [], ◌∷◌, ◌++◌, map, is_some, Some, None, Option, sym, refl, ap, ◌∙◌, subst, ap₂, arith}
 use Rattle.std.specs.Option.{option_to_list}
-use Rattle.std.proofs.lemmas.List.{length_map}
+use Rattle.std.proofs.lemmas.List.{length-map}
 use Rattle.records.specs.declared.circuit.Sense.{Sense}
 use Rattle.records.specs.declared.circuit.Sense.TheVariants.{Along, Against}
 use Rattle.records.specs.Circuits.{UseRecord}
@@ -98,7 +98,7 @@ module _ (f g : ℕ → Option LegRecord) (to : ℕ → ℕ) (there : (n : ℕ) 
 
     found_bare : (rs : List Run) (due : ℕ) → runs_finding q (map bare rs) due ≡ runs_finding q rs due
     found_bare rs due =
-        same_finding q (map bare rs) rs due due (closed_bare rs) (length_map rs bare) (length_bare rs) (running_bare rs)
+        same_finding q (map bare rs) rs due due (closed_bare rs) (length-map rs bare) (length_bare rs) (running_bare rs)
         (ap₂ (λ b x. cond b (q.size (q.plus x (q.opposite (q.due due)))) 0) (closed_bare rs) (total_bare (contribution q) (λ r. refl) rs))
         (ap q.size (total_bare (λ r. own_misclosure q r.leg) (λ r. refl) rs))
 

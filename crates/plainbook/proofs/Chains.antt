@@ -1,7 +1,7 @@
 -- Circuits whose legs stand and chain. Assumes nothing.
 use Rattle.std.proofs.Common.{◌≡◌, ℕ, suc, true, false, not, eqb, List, [], ◌∷◌, ◌++◌, is_some, Some, None, Option, sym, refl, ap, ◌∙◌, subst, ap₂}
 use Rattle.std.specs.Option.{option_map, option_to_list}
-use Rattle.std.proofs.lemmas.Bool.{eqb_true, not_false, or_parts, or_from, both_ways, eqb_false, ne_eqb, false≢true}
+use Rattle.std.proofs.lemmas.Bool.{eqb-true, not-false, or_parts, or_from, both_ways, eqb-false, ne_eqb, false≢true}
 use Rattle.records.specs.declared.refusal.Reason.TheVariants.{Absent, Twice, Broken}
 use Rattle.records.specs.declared.refusal.Refusal.{Refusal}
 use Rattle.records.specs.Circuits.{UseRecord}
@@ -17,7 +17,7 @@ Chained legs at us = AllStand legs us × Follows at (runs legs us)
 
 unbroken : (at : Option ℕ) (r : Run) (rs : List Run) → breaks at (Some r) ≡ false → Follows (Some (ends r.sense r.leg)) rs → Follows at (r ∷ rs)
 unbroken None r rs e rest = rest
-unbroken (Some n) r rs e rest = (eqb_true _ _ (not_false _ e), rest)
+unbroken (Some n) r rs e rest = (eqb-true _ _ (not-false _ e), rest)
 
 -- what a chain that is not refused says of its first leg, and of the rest
 chain_parts : (legs : ℕ → Option LegRecord) (before : List UseRecord) (at : Option ℕ) (i : ℕ) (u : UseRecord) (us : List UseRecord) → first (chain_refusals legs before at i (u ∷ us)) ≡ None →
@@ -30,7 +30,7 @@ chain_parts legs before at i u us e =
     let p0 = first_none (refused_if Absent i (not (is_some (legs u.leg)))) (refused_if Twice i (names u.leg before) ∷ broken) e in
     let p1 = first_none (refused_if Twice i (names u.leg before)) broken p0.1 in
     let p2 = first_none (refused_if Broken i (breaks at run)) rest p1.1 in
-    (not_false _ (not_if Absent i _ p0.0), not_if Twice i _ p1.0, not_if Broken i _ p2.0, p2.1)
+    (not-false _ (not_if Absent i _ p0.0), not_if Twice i _ p1.0, not_if Broken i _ p2.0, p2.1)
 
 -- a chain that is not refused: its legs stand, and each begins where the one before it ended
 pub chained : (legs : ℕ → Option LegRecord) (before : List UseRecord) (at : Option ℕ) (i : ℕ) (us : List UseRecord) → first (chain_refusals legs before at i us) ≡ None → Chained legs at us
@@ -56,7 +56,7 @@ apart_one u before [] h = (refl, tt)
 apart_one u before (v ∷ us) h =
     let here = or_parts (eqb u.leg v.leg) (names v.leg before) h.0 in
     let rest = apart_one u before us h.1 in
-    (or_from _ _ (ne_eqb _ _ (λ e. eqb_false u.leg v.leg here.0 (sym e))) rest.0, (here.1, rest.1))
+    (or_from _ _ (ne_eqb _ _ (λ e. eqb-false u.leg v.leg here.0 (sym e))) rest.0, (here.1, rest.1))
 
 -- and no leg is named twice
 pub not_twice : (legs : ℕ → Option LegRecord) (before : List UseRecord) (at : Option ℕ) (i : ℕ) (us : List UseRecord) → first (chain_refusals legs before at i us) ≡ None → Apart before us × NoneTwice us
@@ -102,4 +102,4 @@ kept_absent f g n (u ∷ us) none same stand =
 pub kept_unnamed : (f g : ℕ → Option LegRecord) (n : ℕ) (us : List UseRecord) → names n us ≡ false → ((m : ℕ) → (m ≡ n → ⊥) → f m ≡ g m) → SameLegs f g us
 kept_unnamed f g n [] e same = tt
 kept_unnamed f g n (u ∷ us) e same =
-    let p = or_parts (eqb u.leg n) (names n us) e in (same u.leg (eqb_false _ _ p.0), kept_unnamed f g n us p.1 same)
+    let p = or_parts (eqb u.leg n) (names n us) e in (same u.leg (eqb-false _ _ p.0), kept_unnamed f g n us p.1 same)

@@ -1,6 +1,6 @@
 -- Sums over a list in any order, for an operation that is associative and commutative. Assumes nothing.
 use Rattle.std.proofs.Common.{◌≡◌, List, [], ◌∷◌, ◌++◌, map, reverse, sym, refl, ap, ◌∙◌, ap₂}
-use Rattle.std.proofs.lemmas.List.{reverse_append}
+use Rattle.std.proofs.lemmas.List.{reverse-append}
 
 pub record Monoid (M : Type 0) : Type 0 where
   pub op : M → M → M
@@ -24,7 +24,7 @@ module _ {X M : Type 0} (m : Monoid M) (f : X → M) where
   pub fold_reverse : (xs : List X) → fold (reverse xs) ≡ fold xs
   fold_reverse [] = refl
   fold_reverse (x ∷ xs) =
-      ap fold (reverse_append (x ∷ []) xs)
+      ap fold (reverse-append (x ∷ []) xs)
       ∙ fold_append (reverse xs) (x ∷ [])
       ∙ ap₂ m.op (fold_reverse xs) (m.comm (f x) m.unit ∙ m.left (f x))
       ∙ m.comm (fold xs) (f x)

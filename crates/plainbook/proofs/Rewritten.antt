@@ -1,7 +1,7 @@
 -- A survey otherwise written has the same items, under the new numbers. Assumes nothing.
 use Rattle.std.proofs.Common.{◌≡◌, ℕ, true, List, [], ◌∷◌, ◌++◌, map, is_some, Some, None, Option, sym, refl, ap, ◌∙◌, subst, ⊎_elim}
 use Rattle.std.specs.Option.{option_map}
-use Rattle.std.proofs.lemmas.List.{reverse_append}
+use Rattle.std.proofs.lemmas.List.{reverse-append}
 use Rattle.std.proofs.lemmas.Bool.{cases_eq}
 use Rattle.records.specs.Circuits.{CircuitRecord, UseRecord}
 use Rattle.records.specs.Legs.{LegRecord}
@@ -80,7 +80,7 @@ stand_swap f xs ys h = let p = stand_split f xs ys h in stand_append f ys xs p.1
 
 stand_turned : (f : ℕ → Option LegRecord) (us : List UseRecord) → AllStand f us → AllStand f (turned us)
 stand_turned f [] h = tt
-stand_turned f (u ∷ us) h = subst (AllStand f) (sym (reverse_append (turned_use u ∷ []) (map turned_use us))) (stand_append f (turned us) (turned_use u ∷ []) (stand_turned f us h.1) (h.0, tt))
+stand_turned f (u ∷ us) h = subst (AllStand f) (sym (reverse-append (turned_use u ∷ []) (map turned_use us))) (stand_append f (turned us) (turned_use u ∷ []) (stand_turned f us h.1) (h.0, tt))
 
 module _ {Element : Type 0} (q : Terms Element) where
   pub record Matched (a b : Survey) (to_leg to_circuit : ℕ → ℕ) : Type 0 where

@@ -1,8 +1,8 @@
 -- Runs begun elsewhere and runs turned round: they still chain, close as before and are found the same. Assumes nothing.
-use Rattle.std.proofs.Common.{◌≡◌, ℕ, ◌+◌, Bool, true, false, cond, eqb, List, [], ◌∷◌, ◌++◌, map, reverse, length, Some, None, Option, sym, refl, ap, ◌∙◌, subst, ap₂, add_assoc, add_comm, zero_add}
+use Rattle.std.proofs.Common.{◌≡◌, ℕ, ◌+◌, Bool, true, false, cond, eqb, List, [], ◌∷◌, ◌++◌, map, reverse, length, Some, None, Option, sym, refl, ap, ◌∙◌, subst, ap₂, add_assoc, add_comm, zero-add}
 use Rattle.std.specs.Option.{option_to_list}
-use Rattle.std.proofs.lemmas.List.{append_nil, append_assoc, reverse_append, length_append, length_reverse, length_map}
-use Rattle.std.proofs.lemmas.Bool.{eqb_true, eq_eqb, false≢true}
+use Rattle.std.proofs.lemmas.List.{append-nil, append_assoc, reverse-append, length-append, length-reverse, length-map}
+use Rattle.std.proofs.lemmas.Bool.{eqb-true, eq-eqb, false≢true}
 use Rattle.records.specs.declared.circuit.Sense.{Sense}
 use Rattle.records.specs.declared.circuit.Sense.TheVariants.{Along, Against}
 use Rattle.records.specs.declared.leg.Running.{Running}
@@ -39,7 +39,7 @@ abbrev pub backward : List Run → List Run
 backward rs = reverse (map turn rs)
 
 backward_cons : (r : Run) (rs : List Run) → backward (r ∷ rs) ≡ backward rs ++ (turn r ∷ [])
-backward_cons r rs = reverse_append (turn r ∷ []) (map turn rs)
+backward_cons r rs = reverse-append (turn r ∷ []) (map turn rs)
 
 -- ---- runs of uses
 pub runs_append : (legs : ℕ → Option LegRecord) (xs ys : List UseRecord) → runs legs (xs ++ ys) ≡ runs legs xs ++ runs legs ys
@@ -49,7 +49,7 @@ runs_append legs (x ∷ xs) ys = ap (λ rs. option_to_list (run_of x (legs x.leg
 pub runs_turned : (legs : ℕ → Option LegRecord) (us : List UseRecord) → runs legs (turned us) ≡ backward (runs legs us)
 runs_turned legs [] = refl
 runs_turned legs (u ∷ us) =
-    ap (runs legs) (reverse_append (turned_use u ∷ []) (map turned_use us))
+    ap (runs legs) (reverse-append (turned_use u ∷ []) (map turned_use us))
     ∙ runs_append legs (turned us) (turned_use u ∷ [])
     ∙ ap₂ (λ xs ys. xs ++ ys) (runs_turned legs us) (one (legs u.leg))
     ∙ joint (legs u.leg)
@@ -59,7 +59,7 @@ runs_turned legs (u ∷ us) =
     one (Some l) = refl
 
     joint : (o : Option LegRecord) → backward (runs legs us) ++ map turn (option_to_list (run_of u o)) ≡ backward (option_to_list (run_of u o) ++ runs legs us)
-    joint None = append_nil (backward (runs legs us))
+    joint None = append-nil (backward (runs legs us))
     joint (Some l) = sym (backward_cons (record { leg = l; sense = u.sense }) (runs legs us))
 
 -- ---- where runs begin and end
@@ -98,8 +98,8 @@ eqb_sym m n = go (eqb m n) refl (eqb n m) refl
   where
     go : (x : Bool) → eqb m n ≡ x → (y : Bool) → eqb n m ≡ y → eqb m n ≡ eqb n m
     go true e true f = e ∙ sym f
-    go true e false f = absurd (false≢true (sym f ∙ eq_eqb n m (sym (eqb_true m n e))))
-    go false e true f = absurd (false≢true (sym e ∙ eq_eqb m n (sym (eqb_true n m f))))
+    go true e false f = absurd (false≢true (sym f ∙ eq-eqb n m (sym (eqb-true m n e))))
+    go false e true f = absurd (false≢true (sym e ∙ eq-eqb m n (sym (eqb-true n m f))))
     go false e false f = e ∙ sym f
 
 some_append : (xs : List Run) (r : Run) → some_run (xs ++ (r ∷ [])) ≡ true
@@ -167,21 +167,21 @@ last_of n [] y ys = refl
 last_of n (x ∷ xs) y ys = last_of (ends x.sense x.leg) xs y ys
 
 pub rotated : (xs ys : List Run) → Linked (xs ++ ys) → closed (xs ++ ys) ≡ true → Linked (ys ++ xs) × (closed (ys ++ xs) ≡ true)
-rotated [] ys h e = (subst Linked (sym (append_nil ys)) h, ap closed (append_nil ys) ∙ e)
-rotated (x ∷ xs) [] h e = (subst Linked (append_nil (x ∷ xs)) h, sym (ap closed (append_nil (x ∷ xs))) ∙ e)
+rotated [] ys h e = (subst Linked (sym (append-nil ys)) h, ap closed (append-nil ys) ∙ e)
+rotated (x ∷ xs) [] h e = (subst Linked (append-nil (x ∷ xs)) h, sym (ap closed (append-nil (x ∷ xs))) ∙ e)
 rotated (x ∷ xs) (y ∷ ys) h e =
     let end_x = ends x.sense x.leg in
     let end_y = ends y.sense y.leg in
     let parts = follows_split None (x ∷ xs) (y ∷ ys) h in
     let second = subst (λ at. Follows at (y ∷ ys)) (after_some end_x xs) parts.1 in
-    let around : begins x.sense x.leg ≡ last_node end_y ys = eqb_true _ _ e ∙ last_of end_x xs y ys in (
+    let around : begins x.sense x.leg ≡ last_node end_y ys = eqb-true _ _ e ∙ last_of end_x xs y ys in (
       follows_join None (y ∷ ys) (x ∷ xs) second.1 (subst (λ at. Follows at (x ∷ xs)) (sym (after_some end_y ys)) (sym around, parts.0)),
-      eq_eqb _ _ (sym second.0 ∙ sym (last_of end_y ys x xs)),
+      eq-eqb _ _ (sym second.0 ∙ sym (last_of end_y ys x xs)),
     )
 
 -- ---- what is found
 lengths : Monoid ℕ
-lengths = record { op = ◌+◌; unit = 0; assoc = add_assoc; comm = add_comm; left = zero_add }
+lengths = record { op = ◌+◌; unit = 0; assoc = add_assoc; comm = add_comm; left = zero-add }
 
 runnings : Monoid Running
 runnings = record { op = joined; unit = Double; assoc = assoc; comm = comm; left = λ x. refl }
@@ -216,7 +216,7 @@ module _ {Element : Type 0} (q : Terms Element) where
   pub found_rotated : (xs ys : List Run) (due : ℕ) → closed (xs ++ ys) ≡ true → closed (ys ++ xs) ≡ true → runs_finding q (ys ++ xs) due ≡ runs_finding q (xs ++ ys) due
   found_rotated xs ys due shut shut' =
       let swapped : (f : Run → Element) → total q (map f (ys ++ xs)) ≡ total q (map f (xs ++ ys)) = λ f. total_fold q f (ys ++ xs) ∙ fold_swap (sums q) f ys xs ∙ sym (total_fold q f (xs ++ ys)) in
-      same_finding (ys ++ xs) (xs ++ ys) due due (shut' ∙ sym shut) (length_append ys xs ∙ add_comm (length ys) (length xs) ∙ sym (length_append xs ys))
+      same_finding (ys ++ xs) (xs ++ ys) due due (shut' ∙ sym shut) (length-append ys xs ∙ add_comm (length ys) (length xs) ∙ sym (length-append xs ys))
       (length_fold (ys ++ xs) ∙ fold_swap lengths _ ys xs ∙ sym (length_fold (xs ++ ys)))
       (running_fold (ys ++ xs) ∙ fold_swap runnings _ ys xs ∙ sym (running_fold (xs ++ ys)))
       (ap₂ (λ b x. cond b (q.size (q.plus x (q.opposite (q.due due)))) 0) (shut' ∙ sym shut) (swapped (contribution q)))
@@ -243,7 +243,7 @@ module _ {Element : Type 0} (q : Terms Element) where
 
   pub found_backward : (rs : List Run) (due due' : ℕ) → q.due due' ≡ q.opposite (q.due due) → runs_finding q (backward rs) due' ≡ runs_finding q rs due
   found_backward rs due due' e =
-      same_finding (backward rs) rs due' due (closed_backward rs) (length_reverse (map turn rs) ∙ length_map rs turn)
+      same_finding (backward rs) rs due' due (closed_backward rs) (length-reverse (map turn rs) ∙ length-map rs turn)
       (length_fold (backward rs) ∙ fold_reverse lengths _ (map turn rs) ∙ fold_map lengths _ turn rs ∙ sym (length_fold rs))
       (running_fold (backward rs) ∙ fold_reverse runnings _ (map turn rs) ∙ fold_map runnings _ turn rs ∙ sym (running_fold rs))
       (ap₂ (λ b x. cond b x 0) (closed_backward rs) (closure_backward rs due due' e))

@@ -1,5 +1,5 @@
 -- Totals of elements and of the whole numbers that they come from.
-use Rattle.std.proofs.Common.{◌≡◌, ℕ, ◌*◌, ◌^◌, ◌<◌, ◌≤◌, List, [], ◌∷◌, map, length, ℤ, pos, neg_ℤ, nat_abs, sym, ap, ◌∙◌, add_mul, arith}
+use Rattle.std.proofs.Common.{◌≡◌, ℕ, ◌*◌, ◌^◌, ◌<◌, ◌≤◌, List, [], ◌∷◌, map, length, ℤ, pos, neg_ℤ, nat_abs, sym, ap, ◌∙◌, add-mul, arith}
 use borrow.Author.Differences.{ints}
 use Rattle.std.specs.List.{AllByRecursion as All}
 use Rattle.quantities.specs.Residues.{residue_plus, residue_opposite, least_residue, signed_form}
@@ -11,7 +11,7 @@ use Rattle.quantities.proofs.Wholes.{least_sum, least_opposite, signed_near}
 pub whole_sum_bound : (b : ℕ) (zs : List ℤ) → All (λ z. nat_abs z ≤ b) zs → nat_abs (whole_sum zs) ≤ length zs * b
 whole_sum_bound b [] h = omega arith
 whole_sum_bound b (z ∷ zs) h =
-    omega (arith, ints, h.0, whole_sum_bound b zs h.1, add_mul 1 (length zs) b)
+    omega (arith, ints, h.0, whole_sum_bound b zs h.1, add-mul 1 (length zs) b)
 
 module _ {Element : Type 0} (m : ℕ) (positive : 0 < m) (residues : ResidueType m Element) (fits : m ≤ 2 ^ 64) (measures : Measures) where
   abbrev pub summed : List ℤ → Element

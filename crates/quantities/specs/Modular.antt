@@ -1,7 +1,7 @@
 -- A quantity whose elements are the least residues modulo m: what it reads from payloads, as whole numbers, and its terms.
 use Rattle.std.specs.Prelude.{◌≡◌, ℕ, ◌+◌, ◌-◌, ◌^◌, ◌<◌, ◌≤◌, Bool, ℤ, pos, None, Option}
 use Rattle.std.proofs.Common.{sym, ap, ◌∙◌, arith}
-use Rattle.std.proofs.Math.Nat.{zero_mod}
+use Rattle.std.proofs.Math.Nat.{zero-mod}
 use Rattle.quantities.specs.Terms.{Terms}
 use Rattle.quantities.specs.Residues.{residue_plus, residue_opposite, residue_size, least_residue}
 use Rattle.quantities.specs.ResidueLaws as law
@@ -35,7 +35,7 @@ module _ {Element : Type 0} (m : ℕ) (positive : 0 < m) (residues : ResidueType
   negated x = residues.element (pos (m - residues.residue x))
 
   pub nothing_residue : residues.residue nothing ≡ 0
-  nothing_residue = residues.reduced (pos 0) ∙ zero_mod m
+  nothing_residue = residues.reduced (pos 0) ∙ zero-mod m
 
   pub sum_residue : (x y : Element) → residues.residue (sum x y) ≡ residue_plus m (residues.residue x) (residues.residue y)
   sum_residue x y = residues.reduced (pos (residues.residue x + residues.residue y))

@@ -1,6 +1,4 @@
 // Quantities: what a leg carries and a circuit sums.
-#![tactic(auto)]
-
 pub mod acceptance;
 pub mod angles;
 pub mod heights;

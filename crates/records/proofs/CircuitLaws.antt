@@ -1,7 +1,7 @@
 -- What decodes is what encoding gives back: circuits. Assumes nothing.
 use Rattle.std.proofs.Common.{◌≡◌, ℕ, zero, suc, ◌+◌, ◌*◌, ◌^◌, ◌<◌, ◌≤◌, Bool, true, false, cond, ◌&&◌, eqb, ltb, List, [], ◌∷◌, map, length, get_or, drop, replicate, Some, None, Ok, Option, sym, refl, ap, ◌∙◌, subst, ap₂, arith}
-use Rattle.std.proofs.lemmas.List.{length_map}
-use Rattle.std.proofs.lemmas.Bool.{and_parts, and_from, ltb_true, leb_true, lt_ltb, eq_eqb, eqb_true, eqb_false}
+use Rattle.std.proofs.lemmas.List.{length-map}
+use Rattle.std.proofs.lemmas.Bool.{and_parts, and_from, ltb-true, leb-true, lt-ltb, eq-eqb, eqb-true, eqb-false}
 use Rattle.records.specs.declared.circuit.Sense.{Sense}
 use Rattle.records.specs.declared.circuit.Sense.TheVariants.{Along, Against}
 use Rattle.records.specs.declared.refusal.Reason.TheVariants.{Layout, Range}
@@ -126,7 +126,7 @@ there c e =
     let p0 = and_parts (is_circuit_number c.number) _ e in
     let p1 = and_parts (ltb c.due (2 ^ 28)) _ p0.1 in
     let p2 = and_parts (is_leg_count (length c.legs)) _ p1.1 in
-    given c p0.0 (ltb_true _ _ p1.0) p2.0 p2.1
+    given c p0.0 (ltb-true _ _ p1.0) p2.0 p2.1
 
 -- ---- from words to a circuit and back
 record Taken (ws : List ℕ) (c : CircuitRecord) : Type 0 where
@@ -159,8 +159,8 @@ sense_of : (n : ℕ) → n ≤ 1 → sense_bit (cond (eqb n 1) Against Along) �
 sense_of n l = go (eqb n 1) refl
   where
     go : (b : Bool) → eqb n 1 ≡ b → sense_bit (cond b Against Along) ≡ n
-    go true e = sym (eqb_true n 1 e)
-    go false e = let other = eqb_false n 1 e in omega arith
+    go true e = sym (eqb-true n 1 e)
+    go false e = let other = eqb-false n 1 e in omega arith
 
 rejoined : (p : ℕ) → p < 2 ^ 28 → bits 8 19 p ≡ 0 → p ≡ bits 27 1 p * 2 ^ 27 + bits 0 8 p
 rejoined p h e = omega arith
@@ -171,7 +171,7 @@ one_back w k r =
     let small : bits 27 1 (payload w) ≤ 1 = omega arith in
     word_is kinds.Use w k
     ∙ ap (word kinds.Use)
-    (rejoined (payload w) (payload_fits w) (eqb_true _ 0 p.1) ∙ ap (λ s. s * 2 ^ 27 + bits 0 8 (payload w)) (sym (sense_of _ small)))
+    (rejoined (payload w) (payload_fits w) (eqb-true _ 0 p.1) ∙ ap (λ s. s * 2 ^ 27 + bits 0 8 (payload w)) (sym (sense_of _ small)))
 
 uses_back : (i j : ℕ) (slots : List Slot) (ws : List ℕ) → Only slots → misplaced i slots ws ≡ None → use_unranged j ws ≡ None →
     (ws ≡ map use_word (map use_read ws)) × (uses_fit (map use_read ws) ≡ true)
@@ -193,7 +193,7 @@ Rewritten ws = head_ranged (get_or ws 0 0) ≡ true → use_unranged 2 (drop 2 w
 head_back : (h : ℕ) → kind h ≡ 6 → head_ranged h ≡ true → h ≡ word kinds.Circuit (bits 20 8 (payload h) * 2 ^ 20)
 head_back h k r =
     let p = and_parts (is_circuit_number (bits 20 8 (payload h))) _ r in
-    let zero_low = eqb_true _ 0 p.1 in
+    let zero_low = eqb-true _ 0 p.1 in
     word_is kinds.Circuit h k ∙ ap (word kinds.Circuit) (top (payload h) (payload_fits h) zero_low)
   where
     top : (p : ℕ) → p < 2 ^ 28 → bits 0 20 p ≡ 0 → p ≡ bits 20 8 p * 2 ^ 20
@@ -205,7 +205,7 @@ module _ (h d : ℕ) (ws : List ℕ) where
       let rest = uses_back 2 2 (drop 2 circuit_layout) ws (refl, only_more 15) laid uses in (
         λ i. head_back h kh head i ∷ (word_is kinds.Due d kd i ∷ rest.0 i),
         and_from _ _ (and_parts (is_circuit_number (bits 20 8 (payload h))) _ head).0
-            (and_from _ _ (lt_ltb _ _ (payload_fits d)) (and_from _ _ (ap is_leg_count (length_map ws use_read) ∙ few) rest.1)),
+            (and_from _ _ (lt-ltb _ _ (payload_fits d)) (and_from _ _ (ap is_leg_count (length-map ws use_read) ∙ few) rest.1)),
       )
 
 rewritten : (ws : List ℕ) → misplaced 0 circuit_layout ws ≡ None → Rewritten ws

@@ -2,8 +2,8 @@
 use Rattle.std.proofs.Common.{◌≡◌, ℕ, suc, ◌+◌, ◌-◌, ◌*◌, ◌^◌, ◌<◌, ◌≤◌, Bool, true, false, cond, not, ◌&&◌, eqb, ltb, List, [], ◌∷◌, ◌++◌, map, length, get_or, take, drop, is_some, Some, None, Ok, Err, Option, Result, sym, refl, ap, ◌∙◌, ap₂, arith, MatchOption}
 use Rattle.std.specs.Option.{option_map}
 use Rattle.std.specs.List.{slice_get}
-use Rattle.std.proofs.lemmas.List.{at_drop_more, at_drop_all, map_push, map_more, length_drop, length_map, take_rest}
-use Rattle.std.proofs.lemmas.Bool.{and_from, le_leb, both_ways}
+use Rattle.std.proofs.lemmas.List.{at_drop_more, at_drop_all, map_push, map_more, length-drop, length-map, take_rest}
+use Rattle.std.proofs.lemmas.Bool.{and_from, le-leb, both_ways}
 use Rattle.records.specs.declared.circuit.LegUse.{LegUse}
 use Rattle.records.specs.declared.number.CircuitNumber.{CircuitNumber}
 use Rattle.records.specs.declared.refusal.Reason.TheVariants.{Layout, Range}
@@ -89,14 +89,14 @@ module _ (ws : List ℕ) where
         omega (arith, ap length head.is, ap length due.is, ap length leg.is)
 
     pub few_uses : length (take (length ws - 2) (drop 2 ws)) ≤ 16
-    few_uses = let high = no_more 0 circuit_layout ws laid in let is = ap length (take_rest ws 2) ∙ length_drop 2 ws in omega arith
+    few_uses = let high = no_more 0 circuit_layout ws laid in let is = ap length (take_rest ws 2) ∙ length-drop 2 ws in omega arith
 
     pub counted : is_leg_count (length (drop 2 ws)) ≡ true
     counted =
         let low = three_up in
         let high = no_more 0 circuit_layout ws laid in
-        let is = length_drop 2 ws in
-        and_from _ _ (le_leb 1 (length (drop 2 ws)) (omega arith)) (le_leb (length (drop 2 ws)) 16 (omega arith))
+        let is = length-drop 2 ws in
+        and_from _ _ (le-leb 1 (length (drop 2 ws)) (omega arith)) (le-leb (length (drop 2 ws)) 16 (omega arith))
 
 pub head_read : (o : Option CircuitNumber) (b : Bool) (n : ℕ) → option_map (λ n. n.value) o ≡ cond b (Some n) None → is_some o ≡ b
 head_read None true n e = cc
@@ -119,7 +119,7 @@ head_is x false n e = let z : ◌≡◌ {A = ℕ} 0 1 = cc in absurd (omega arit
 
 pub legs_counted : (ws : List ℕ) (n : ℕ) (us : List LegUse) → misplaced 0 circuit_layout ws ≡ None → n ≡ length us → map use_record us ≡ map use_read (take (length ws - 2) (drop 2 ws)) → is_leg_count n ≡ true
 legs_counted ws n us laid len read =
-    let same : n ≡ length (drop 2 ws) = len ∙ sym (length_map us use_record) ∙ ap length read ∙ length_map _ use_read ∙ ap length (take_rest ws 2) in
+    let same : n ≡ length (drop 2 ws) = len ∙ sym (length-map us use_record) ∙ ap length read ∙ length-map _ use_read ∙ ap length (take_rest ws 2) in
     ap is_leg_count same ∙ counted ws laid
 
 pub circuit_same : (ws : List ℕ) (c : CircuitRecord) → c.number ≡ bits 20 8 (payload (get_or ws 0 0)) → c.due ≡ payload (get_or ws 1 0) → c.legs ≡ map use_read (take (length ws - 2) (drop 2 ws)) → circuit_read ws ≡ c

@@ -1,7 +1,7 @@
 -- One step along a layout. Assumes nothing.
-use Rattle.std.proofs.Common.{◌≡◌, ℕ, suc, ◌+◌, ◌<◌, ◌≤◌, Bool, true, false, cond, eqb, List, [], ◌∷◌, length, get_or, drop, Some, None, Ok, Err, Option, Result, sym, refl, ap, ◌∙◌, subst, ap₂, add_one, arith}
+use Rattle.std.proofs.Common.{◌≡◌, ℕ, suc, ◌+◌, ◌<◌, ◌≤◌, Bool, true, false, cond, eqb, List, [], ◌∷◌, length, get_or, drop, Some, None, Ok, Err, Option, Result, sym, refl, ap, ◌∙◌, subst, ap₂, add-one, arith}
 use Rattle.std.proofs.lemmas.List.{drop_more, drop_all}
-use Rattle.std.proofs.lemmas.Bool.{eq_eqb, ne_eqb, eqb_true, eqb_false, both_ways}
+use Rattle.std.proofs.lemmas.Bool.{eq-eqb, ne_eqb, eqb-true, eqb-false, both_ways}
 use Rattle.records.specs.declared.word.Slot.{Slot}
 use Rattle.records.specs.declared.refusal.Reason.{Reason}
 use Rattle.records.specs.declared.refusal.Refusal.{Refusal}
@@ -25,7 +25,7 @@ module _ (slots : List Slot) (ws : List ℕ) (i : ℕ) where
   pub spared : (d : Slot) → i < length slots → length ws ≤ i → (get_or slots i d).required ≡ false →
       misplaced (i + 1) (drop (i + 1) slots) (drop (i + 1) ws) ≡ misplaced i (drop i slots) (drop i ws)
   spared d l h e =
-      ap (λ j. misplaced j (drop (i + 1) slots) (drop (i + 1) ws)) (add_one i)
+      ap (λ j. misplaced j (drop (i + 1) slots) (drop (i + 1) ws)) (add-one i)
       ∙ sym (absent d l h ∙ ap (λ b. cond b (Some i) (misplaced (suc i) (drop (i + 1) slots) (drop (i + 1) ws))) e)
 
   present : (d : Slot) (e : ℕ) → i < length slots → i < length ws →
@@ -38,8 +38,8 @@ module _ (slots : List Slot) (ws : List ℕ) (i : ℕ) where
   pub same_kind : (d : Slot) (e : ℕ) → i < length slots → i < length ws → kind (get_or ws i e) ≡ kind_number (get_or slots i d).kind →
       misplaced (i + 1) (drop (i + 1) slots) (drop (i + 1) ws) ≡ misplaced i (drop i slots) (drop i ws)
   same_kind d e l h n =
-      ap (λ j. misplaced j (drop (i + 1) slots) (drop (i + 1) ws)) (add_one i)
-      ∙ sym (present d e l h ∙ ap (λ b. cond b (misplaced (suc i) (drop (i + 1) slots) (drop (i + 1) ws)) (Some i)) (eq_eqb _ _ n))
+      ap (λ j. misplaced j (drop (i + 1) slots) (drop (i + 1) ws)) (add-one i)
+      ∙ sym (present d e l h ∙ ap (λ b. cond b (misplaced (suc i) (drop (i + 1) slots) (drop (i + 1) ws)) (Some i)) (eq-eqb _ _ n))
 
   pub surplus : length slots ≤ i → i < length ws → Some i ≡ misplaced i (drop i slots) (drop i ws)
   surplus l h = sym (ap₂ (misplaced i) (drop_all i slots l) (drop_more ws i 0 h))
@@ -57,13 +57,13 @@ laid = passes Layout
 
 -- a word of the slot's kind, in front
 pub step : (i : ℕ) (s : Slot) (slots : List Slot) (w : ℕ) (ws : List ℕ) → kind w ≡ kind_number s.kind → misplaced i (s ∷ slots) (w ∷ ws) ≡ misplaced (suc i) slots ws
-step i s slots w ws e = ap (λ b. cond b (misplaced (suc i) slots ws) (Some i)) (eq_eqb _ _ e)
+step i s slots w ws e = ap (λ b. cond b (misplaced (suc i) slots ws) (Some i)) (eq-eqb _ _ e)
 
 pub step_back : (i : ℕ) (s : Slot) (slots : List Slot) (w : ℕ) (ws : List ℕ) → misplaced i (s ∷ slots) (w ∷ ws) ≡ None → (kind w ≡ kind_number s.kind) × (misplaced (suc i) slots ws ≡ None)
 step_back i s slots w ws e = go (eqb (kind w) (kind_number s.kind)) refl e
   where
     go : (b : Bool) → eqb (kind w) (kind_number s.kind) ≡ b → cond b (misplaced (suc i) slots ws) (Some i) ≡ None → (kind w ≡ kind_number s.kind) × (misplaced (suc i) slots ws ≡ None)
-    go true p h = (eqb_true _ _ p, h)
+    go true p h = (eqb-true _ _ p, h)
     go false p h = let z : ◌≡◌ {A = ℕ} 0 1 = cc in absurd (omega arith)
 
 -- the word that a required slot has
@@ -103,8 +103,8 @@ lowest_from i (s ∷ slots) (w ∷ ws) = go (eqb (kind w) (kind_number s.kind)) 
   where
     go : (b : Bool) → eqb (kind w) (kind_number s.kind) ≡ b → Lowest (From (suc i) (Broken slots ws)) (misplaced (suc i) slots ws) →
         Lowest (From i (Broken (s ∷ slots) (w ∷ ws))) (cond b (misplaced (suc i) slots ws) (Some i))
-    go true e rest = passed i (Broken (s ∷ slots) (w ∷ ws)) _ (λ h. h (eqb_true _ _ e)) rest
-    go false e rest = stopped i (Broken (s ∷ slots) (w ∷ ws)) (eqb_false _ _ e)
+    go true e rest = passed i (Broken (s ∷ slots) (w ∷ ws)) _ (λ h. h (eqb-true _ _ e)) rest
+    go false e rest = stopped i (Broken (s ∷ slots) (w ∷ ws)) (eqb-false _ _ e)
 
 pub lowest_misplaced : (slots : List Slot) (ws : List ℕ) (r : Option ℕ) → r ≡ misplaced 0 slots ws → Lowest (Broken slots ws) r
 lowest_misplaced slots ws r e = subst (Lowest (Broken slots ws)) (sym e) (from_zero (Broken slots ws) _ (lowest_from 0 slots ws))

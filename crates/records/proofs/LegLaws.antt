@@ -1,6 +1,6 @@
 -- What decodes is what encoding gives back: legs. Assumes nothing.
 use Rattle.std.proofs.Common.{◌≡◌, ℕ, suc, ◌+◌, ◌*◌, ◌^◌, ◌<◌, ◌≤◌, Bool, true, false, cond, not, ◌&&◌, eqb, ltb, List, [], ◌∷◌, length, get_or, drop, Some, None, Ok, Err, Option, Result, sym, refl, ap, ◌∙◌, subst, ap₂, arith}
-use Rattle.std.proofs.lemmas.Bool.{and_parts, and_from, ltb_true, leb_true, lt_ltb, not_true}
+use Rattle.std.proofs.lemmas.Bool.{and_parts, and_from, ltb-true, leb-true, lt-ltb, not-true}
 use Rattle.records.specs.declared.refusal.Reason.TheVariants.{Layout, Range}
 use Rattle.records.specs.declared.refusal.Refusal.{Refusal}
 use Rattle.records.specs.declared.word.Kind.{Kind}
@@ -48,11 +48,11 @@ fitting l e =
       number = omega arith;
       start = omega arith;
       end = omega arith;
-      value = ltb_true _ _ p1.0;
-      metres = ltb_true _ _ p2.0;
-      a = ltb_true _ _ p3.0;
-      b = ltb_true _ _ p4.0;
-      c = ltb_true _ _ p5.0;
+      value = ltb-true _ _ p1.0;
+      metres = ltb-true _ _ p2.0;
+      a = ltb-true _ _ p3.0;
+      b = ltb-true _ _ p4.0;
+      c = ltb-true _ _ p5.0;
       back = p5.1;
     }
 
@@ -65,7 +65,7 @@ module _ (l : LegRecord) (f : Fitting l) where
 
   back_laid : (o : Option ℕ) → fits_back o ≡ true → misplaced 4 (may kinds.Back ∷ []) (back_words o) ≡ None
   back_laid None e = refl
-  back_laid (Some p) e = step 4 (may kinds.Back) [] _ [] (kind_word kinds.Back p (ltb_true _ _ e))
+  back_laid (Some p) e = step 4 (may kinds.Back) [] _ [] (kind_word kinds.Back p (ltb-true _ _ e))
 
   laid_out : misplaced 0 leg_layout (leg_words l) ≡ None
   laid_out =
@@ -79,7 +79,7 @@ module _ (l : LegRecord) (f : Fitting l) where
 
   back_same : (o : Option ℕ) → fits_back o ≡ true → back_read (back_words o) ≡ o
   back_same None e = refl
-  back_same (Some p) e = ap Some (payload_word kinds.Back p (ltb_true _ _ e))
+  back_same (Some p) e = ap Some (payload_word kinds.Back p (ltb-true _ _ e))
 
   read_back : leg_read (leg_words l) ≡ l
   read_back =
@@ -116,7 +116,7 @@ taken ws l e = go (misplaced 0 leg_layout ws) (leg_ranged (leg_read ws)) refl re
 back_there : (ws : List ℕ) → misplaced 4 (may kinds.Back ∷ []) ws ≡ None → (ws ≡ back_words (back_read ws)) × (fits_back (back_read ws) ≡ true)
 back_there [] e = (refl, refl)
 back_there (w ∷ []) e =
-    let k = step_back 4 (may kinds.Back) [] w [] e in (ap (λ v. v ∷ []) (word_is kinds.Back w k.0), lt_ltb _ _ (payload_fits w))
+    let k = step_back 4 (may kinds.Back) [] w [] e in (ap (λ v. v ∷ []) (word_is kinds.Back w k.0), lt-ltb _ _ (payload_fits w))
 back_there (w ∷ (v ∷ vs)) e =
     let k = step_back 4 (may kinds.Back) [] w (v ∷ vs) e in let z : ◌≡◌ {A = ℕ} 0 1 = cc in absurd (omega arith)
 
@@ -133,10 +133,10 @@ module _ (h v m q : ℕ) (ws : List ℕ) where
       let rest = back_there ws e in (
         λ i. packed_word kinds.Leg h kh i ∷ (word_is kinds.Value v kv i ∷ (word_is kinds.Length m km i ∷ (packed_word kinds.Readings q kq i ∷ rest.0 i))),
         and_from _ _ r
-            (and_from _ _ (lt_ltb _ _ (payload_fits v))
-            (and_from _ _ (lt_ltb _ _ (payload_fits m))
-            (and_from _ _ (lt_ltb _ _ (high_fits (payload q)))
-            (and_from _ _ (lt_ltb _ _ (ten_fits 10 (payload q))) (and_from _ _ (lt_ltb _ _ (ten_fits 0 (payload q))) rest.1))))),
+            (and_from _ _ (lt-ltb _ _ (payload_fits v))
+            (and_from _ _ (lt-ltb _ _ (payload_fits m))
+            (and_from _ _ (lt-ltb _ _ (high_fits (payload q)))
+            (and_from _ _ (lt-ltb _ _ (ten_fits 10 (payload q))) (and_from _ _ (lt-ltb _ _ (ten_fits 0 (payload q))) rest.1))))),
       )
 
 rewritten : (ws : List ℕ) → misplaced 0 leg_layout ws ≡ None → Rewritten ws

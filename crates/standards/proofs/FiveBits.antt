@@ -6,8 +6,8 @@ use lib.Bits.{bit_and, and_shr, and_mod}
 use lib.Count.{ones, ones_in, count_trailing_zeros, under}
 use mir.Val.{bool_byte}
 use Rattle.std.proofs.lemmas.Nat.{mod_below}
-use Rattle.std.proofs.lemmas.Bool.{eqb_true}
-use Rattle.std.proofs.lemmas.Bool.Decides.{DecidesBelow_and}
+use Rattle.std.proofs.lemmas.Bool.{eqb-true}
+use Rattle.std.proofs.lemmas.Bool.Decides.{Decides-below_and}
 use Rattle.standards.specs.declared.class.Class.{Class}
 use Rattle.standards.specs.declared.class.Class.TheVariants.{First, Second, Third, Fourth, Fifth}
 use Rattle.standards.specs.declared.class_set.ClassSet.{ClassSet}
@@ -21,11 +21,11 @@ passes_below p (suc n) = p n && passes_below p n
 
 -- a test that passes, computed, at each of the 32 sets
 at_each_set : (p : ℕ → Bool) → passes_below p 32 ≡ true → (bits : ℕ) → bits < 32 → p bits ≡ true
-at_each_set p = (DecidesBelow_and p (λ n. p n ≡ true) (passes_below p) (λ n. (λ e. e, λ e. e)) refl (λ _. refl) 32).0
+at_each_set p = (Decides-below_and p (λ n. p n ≡ true) (passes_below p) (λ n. (λ e. e, λ e. e)) refl (λ _. refl) 32).0
 
 pub ones_count : (bits : ℕ) → bits < 32 → ones bits ≡ members (bit bits)
 unfolding ones ones_in
-ones_count bits fits = eqb_true _ _ (at_each_set (λ n. eqb (ones n) (members (bit n))) refl bits fits)
+ones_count bits fits = eqb-true _ _ (at_each_set (λ n. eqb (ones n) (members (bit n))) refl bits fits)
 
 -- the number of a class, and 0 for none
 abbrev number_of : Option Class → ℕ
@@ -40,7 +40,7 @@ pub zeros_least : (bits : ℕ) → bits < 32 → class_at (count_trailing_zeros 
 unfolding count_trailing_zeros
 zeros_least bits fits =
     let same : number_of (class_at (count_trailing_zeros 8 bits + 1)) ≡ number_of (least (bit bits)) =
-    eqb_true _ _ (at_each_set (λ n. eqb (number_of (class_at (count_trailing_zeros 8 n + 1))) (number_of (least (bit n)))) refl bits fits) in
+    eqb-true _ _ (at_each_set (λ n. eqb (number_of (class_at (count_trailing_zeros 8 n + 1))) (number_of (least (bit n)))) refl bits fits) in
     sym (of_number_of (class_at (count_trailing_zeros 8 bits + 1))) ∙ ap class_at same ∙ of_number_of (least (bit bits))
 
 -- the bits of five tests
@@ -49,7 +49,7 @@ weighed test =
     cond (test First) 1 0 + cond (test Second) 2 0 + cond (test Third) 4 0 + cond (test Fourth) 8 0 + cond (test Fifth) 16 0
 
 weighed_bits : (bits : ℕ) → bits < 32 → weighed (bit bits) ≡ bits
-weighed_bits bits fits = eqb_true _ _ (at_each_set (λ n. eqb (weighed (bit n)) n) refl bits fits)
+weighed_bits bits fits = eqb-true _ _ (at_each_set (λ n. eqb (weighed (bit n)) n) refl bits fits)
 
 pub sets_by_members : SetsByMembers
 sets_by_members s t same =

@@ -1,12 +1,12 @@
 -- What is gathered over findings and rules, and what findings that are no worse miss.
-use Rattle.std.proofs.Common.{◌≡◌, ℕ, zero, suc, ◌+◌, ◌<◌, ◌≤◌, Bool, true, false, ◌&&◌, List, [], ◌∷◌, length, get_or, drop, Decides, sym, refl, ap, ◌∙◌, ap₂, inl, inr, ⊎_elim, add_one, drop_cons}
+use Rattle.std.proofs.Common.{◌≡◌, ℕ, zero, suc, ◌+◌, ◌<◌, ◌≤◌, Bool, true, false, ◌&&◌, List, [], ◌∷◌, length, get_or, drop, Decides, sym, refl, ap, ◌∙◌, ap₂, inl, inr, ⊎_elim, add-one, drop-cons}
 use mathlib.Core.Bool.{and_true}
 use Rattle.std.specs.List.{AllZip, HoldsAt, AllByRecursion as All}
-use Rattle.std.proofs.lemmas.List.Elements.{AllZipGet_or}
+use Rattle.std.proofs.lemmas.List.Elements.{AllZip-get_or}
 use Rattle.std.proofs.lemmas.List.{drop_all}
 use Rattle.std.proofs.lemmas.Bool.{cases_Bool, both_ways}
-use Rattle.std.proofs.lemmas.Bool.Decides.{DecidesBelow_and}
-use Rattle.std.proofs.ByRecursion.{DecidesBy_and}
+use Rattle.std.proofs.lemmas.Bool.Decides.{Decides-below_and}
+use Rattle.std.proofs.ByRecursion.{Decides-by_and}
 use Rattle.standards.specs.declared.class.Class.{Class}
 use Rattle.standards.specs.declared.finding.Directions.{Directions}
 use Rattle.standards.specs.Gathering.{meets_first, all_meet, AllMeet, KeepsOrder}
@@ -36,7 +36,7 @@ module _ {Finding : Type 0} {kind : Kind Finding} {better : Directions} (table :
       → more ≡ table.meets n f k → r ≡ (meets_first table (n + 1) f k && before)
   rule_next n f k before both so_far asked =
       both ∙ ap₂ (λ x y. x && y) so_far asked ∙ first_last (meets_first table n f k) before (table.meets n f k)
-      ∙ ap (λ i. meets_first table i f k && before) (sym (add_one n))
+      ∙ ap (λ i. meets_first table i f k && before) (sym (add-one n))
 
   -- one finding more, judged under all rules
   pub finding_next : (fs : List Finding) (i : ℕ) (f : Finding) (k : Class) (n : ℕ) (before : Bool) {m : Bool}
@@ -45,7 +45,7 @@ module _ {Finding : Type 0} {kind : Kind Finding} {better : Directions} (table :
       → (m && all_meet table (drop (i + 1) fs) k) ≡ all_meet table fs k
   finding_next fs i f k n before within read all_rules judged left =
       let rest = drop (i + 1) fs in
-      let front : drop i fs ≡ f ∷ rest = rw add_one (drop_cons fs i f within ∙ ap (λ x. x ∷ drop (suc i) fs) (sym read)) in
+      let front : drop i fs ≡ f ∷ rest = rw add-one (drop-cons fs i f within ∙ ap (λ x. x ∷ drop (suc i) fs) (sym read)) in
       ap (λ b. b && all_meet table rest k) (judged ∙ ap (λ c. meets_first table c f k && before) all_rules)
       ∙ second_first (meets_first table table.count f k) before (all_meet table rest k)
       ∙ ap (λ l. before && all_meet table l k) (sym front)
@@ -58,11 +58,11 @@ module _ {Finding : Type 0} {kind : Kind Finding} {better : Directions} (table :
 
   pub decides_all_meet : (fs : List Finding) (k : Class) → Decides (all_meet table fs k) (AllMeet table fs k)
   decides_all_meet fs k =
-      DecidesBy_and (λ f. meets_first table table.count f k)
+      Decides-by_and (λ f. meets_first table table.count f k)
       (λ f. (rule : ℕ) → rule < table.count → table.meets rule f k ≡ true)
       (λ l. all_meet table l k)
       (λ f.
-      DecidesBelow_and (λ rule. table.meets rule f k) (λ rule. table.meets rule f k ≡ true)
+      Decides-below_and (λ rule. table.meets rule f k) (λ rule. table.meets rule f k ≡ true)
       (λ n. meets_first table n f k) (λ _. (λ e. e, λ e. e)) refl (λ _. refl) table.count)
       refl (λ _ _. refl) fs
 
@@ -84,7 +84,7 @@ module _ {Finding : Type 0} {kind : Kind Finding} {better : Directions} (table :
       record {
         misses =
             λ fs gs pairs i within rule k missed d.
-            misses_one (get_or fs i d) (get_or gs i d) (AllZipGet_or (NoWorse kind better) fs gs i d d pairs within) rule k (missed d);
+            misses_one (get_or fs i d) (get_or gs i d) (AllZip-get_or (NoWorse kind better) fs gs i d d pairs within) rule k (missed d);
         meets = meets_no_less;
         order = preorder kind better;
       }

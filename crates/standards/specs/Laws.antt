@@ -1,19 +1,19 @@
 -- What is no worse passes a comparison where the other passes.
 use Rattle.std.specs.Prelude.{◌≡◌, ℕ, ◌*◌, ◌≤◌, Bool, true, false, nat_le}
 use Rattle.std.proofs.Common.{le_trans}
-use Rattle.std.proofs.lemmas.Nat.{mul_le}
-use Rattle.std.proofs.lemmas.Bool.{leb_true, le_leb}
+use Rattle.std.proofs.lemmas.Nat.{mul-le}
+use Rattle.std.proofs.lemmas.Bool.{leb-true, le-leb}
 use Rattle.standards.specs.declared.class.Class.{Class}
 use Rattle.standards.specs.Limits.{where_asked}
 
 pub below : (x y bound : ℕ) → x ≤ y → nat_le y bound ≡ true → nat_le x bound ≡ true
-below x y bound h met = le_leb x bound (le_trans h (leb_true y bound met))
+below x y bound h met = le-leb x bound (le_trans h (leb-true y bound met))
 
 pub above : (x y bound : ℕ) → y ≤ x → nat_le bound y ≡ true → nat_le bound x ≡ true
-above x y bound h met = le_leb bound x (le_trans (leb_true bound y met) h)
+above x y bound h met = le-leb bound x (le_trans (leb-true bound y met) h)
 
 pub square_below : (x y bound : ℕ) → x ≤ y → nat_le (y * y) bound ≡ true → nat_le (x * x) bound ≡ true
-square_below x y bound h = below (x * x) (y * y) bound (mul_le x x y y h h)
+square_below x y bound h = below (x * x) (y * y) bound (mul-le x x y y h h)
 
 -- a rule that asks something of some findings only
 pub through_asked : (asked : Bool) (p q : Class → Bool) (k : Class) → (p k ≡ true → q k ≡ true)

@@ -1,6 +1,4 @@
 // The limits of both tables, tried on each limit and on either side of it.
-#![tactic(auto)]
-
 #[cfg(test)]
 mod level;
 #[cfg(test)]

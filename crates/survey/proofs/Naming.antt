@@ -1,7 +1,7 @@
 -- Which legs a list of words names. Assumes nothing.
 use Rattle.std.proofs.Common.{◌≡◌, ℕ, ◌+◌, ◌%◌, ◌<◌, ◌≤◌, Bool, true, false, ◌||◌, eqb, List, [], ◌∷◌, map, length, get_or, drop, sym, refl, ap, ◌∙◌, arith}
 use Rattle.std.proofs.lemmas.List.{at_drop_more, at_drop_all}
-use Rattle.std.proofs.lemmas.Bool.{eq_eqb, ne_eqb}
+use Rattle.std.proofs.lemmas.Bool.{eq-eqb, ne_eqb}
 use Rattle.records.specs.Circuits.{use_read}
 use Rattle.records.specs.Words.{bits, payload}
 use Rattle.plainbook.specs.Surveys.{names}
@@ -15,7 +15,7 @@ named leg ws = names leg (map use_read ws)
 
 module _ (leg : ℕ) (ws : List ℕ) (i d : ℕ) (l : i < length ws) where
   pub named_here : bits 0 8 (payload (get_or ws i d)) ≡ leg → named leg (drop i ws) ≡ true
-  named_here e = at_drop_more (named leg) ws i d l ∙ ap (λ b. b || named leg (drop (i + 1) ws)) (eq_eqb _ leg e)
+  named_here e = at_drop_more (named leg) ws i d l ∙ ap (λ b. b || named leg (drop (i + 1) ws)) (eq-eqb _ leg e)
 
   pub named_later : (bits 0 8 (payload (get_or ws i d)) ≡ leg → ⊥) → named leg (drop (i + 1) ws) ≡ named leg (drop i ws)
   named_later e = sym (at_drop_more (named leg) ws i d l ∙ ap (λ b. b || named leg (drop (i + 1) ws)) (ne_eqb _ leg e))

@@ -4,7 +4,7 @@ use Rattle.std.specs.BTreeMap.{BTreeMap}
 use Rattle.std.specs.BTreeMap.{Updates, IsUnchanged}
 use Rattle.std.specs.Map.{update}
 use Rattle.std.specs.Option.{option_map}
-use Rattle.std.proofs.lemmas.Bool.{not_true, not_from_false}
+use Rattle.std.proofs.lemmas.Bool.{not-true, not_from_false}
 use Rattle.records.specs.declared.circuit.Circuit.{Circuit}
 use Rattle.records.specs.declared.leg.Leg.{Leg}
 use Rattle.records.specs.declared.refusal.Refusal.{Refusal}
@@ -34,7 +34,7 @@ module _ {Q S : Type 0} (b : Book Q S) where
         chains =
             λ n c e.
             let there = mapped_some circuit_record (table b.circuits n) c e in
-            let chain = none_from_isSome _ (not_true _ (passed _ (every_at (chains_over b.legs) b.circuits b.chained n there.0 there.1))) in
+            let chain = none_from_isSome _ (not-true _ (passed _ (every_at (chains_over b.legs) b.circuits b.chained n there.0 there.1))) in
             subst (λ x. first (chain_refusals (standing_legs b.legs) [] None 2 x.legs) ≡ None) there.2 chain;
       }
 

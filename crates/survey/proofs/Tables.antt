@@ -9,13 +9,13 @@ use Rattle.std.specs.List.{zip, list_all}
 use Rattle.std.specs.Cmp.{nat_cmp_total, unsigned_tied}
 use Rattle.std.specs.Ordering.{eq_by_cmp, MatchOrdering, nat_cmp}
 use Rattle.std.specs.Option.{option_map}
-use Rattle.std.specs.Map.Invariant.{is_strictly_sorted_by}
+use Rattle.std.specs.Map.Invariant.{is-strictly-sorted-by}
 use Rattle.records.specs.Ranges.{between}
 use Rattle.survey.specs.Numbered.{Numbered, table, every}
-use Rattle.std.proofs.lemmas.Map.Invariant.{btree_map_from_valid, valid_from_btree_map}
+use Rattle.std.proofs.lemmas.Map.Invariant.{btree-map-from-valid, valid-from-btree-map}
 use Rattle.std.proofs.lemmas.Map.Pairs.{place_from_lookup, btree_map_get_place}
-use Rattle.std.proofs.lemmas.Slice.Zip.{get_or_zip, length_zip}
-use Rattle.std.proofs.lemmas.Bool.{eqb_true, false≢true, true≢false, le_leb, leb_true}
+use Rattle.std.proofs.lemmas.Slice.Zip.{get_or-zip, length-zip}
+use Rattle.std.proofs.lemmas.Bool.{eqb-true, false≢true, true≢false, le-leb, leb-true}
 
 abbrev pub ByNumber : ℕ → ℕ → Ordering → Type 0
 ByNumber x y r = MatchOrdering r (x < y) (x ≡ y) (y < x)
@@ -43,10 +43,10 @@ right true b h = h
 right false b h = absurd h
 
 pub ranged : (high n : ℕ) → 1 ≤ n → n ≤ high → T (between 1 high n)
-ranged high n l h = both (leb 1 n) (leb n high) (passes _ (le_leb 1 n l)) (passes _ (le_leb n high h))
+ranged high n l h = both (leb 1 n) (leb n high) (passes _ (le-leb 1 n l)) (passes _ (le-leb n high h))
 
 pub unranged : (high n : ℕ) → T (between 1 high n) → (1 ≤ n) × (n ≤ high)
-unranged high n h = (leb_true 1 n (passed _ (left (leb 1 n) (leb n high) h)), leb_true n high (passed _ (right (leb 1 n) (leb n high) h)))
+unranged high n h = (leb-true 1 n (passed _ (left (leb 1 n) (leb n high) h)), leb-true n high (passed _ (right (leb 1 n) (leb n high) h)))
 
 module _ {A : Type 0} (p : A → Bool) where
   pass_getD : (xs : List A) (i : ℕ) (d : A) → T (list_all p xs) → i < length xs → T (p (get_or xs i d))
@@ -76,23 +76,23 @@ mapped_update f g n w q = go (eqb q n)
 
 module _ {X : Type 0} where
   pub ordered : (high : ℕ) (m : BTreeMap ℕ X) → Numbered high m → IsOrdered nat_cmp m
-  ordered high m o = btree_map_from_valid nat_cmp m o.0
+  ordered high m o = btree-map-from-valid nat_cmp m o.0
 
   -- ---- what stands passes a test
   pub every_at : (test : ℕ → X → Bool) (m : BTreeMap ℕ X) → T (every test m) → (n : ℕ) (x : X) → table m n ≡ Some x → T (test n x)
   every_at test m h n x is =
       let place = place_from_lookup (eq_by_cmp nat_cmp) (keys m) (values m) n x is in
-      let same : n ≡ get_or (keys m) place.0 n = eqb_true _ _ (sym (unsigned_tied n (get_or (keys m) place.0 n)) ∙ place.3) in
-      let here = pass_getD (λ p. test p.0 p.1) (m.entries) place.0 (n, x) h (omega (arith, length_zip (keys m) (values m), place.1, place.2)) in
-      subst (λ k. T (test k x)) (sym same) (subst (λ v. T (test (get_or (keys m) place.0 n) v)) place.4 (subst (λ p. T (test p.0 p.1)) (get_or_zip (keys m) (values m) place.0 (n, x) place.1 place.2) here))
+      let same : n ≡ get_or (keys m) place.0 n = eqb-true _ _ (sym (unsigned_tied n (get_or (keys m) place.0 n)) ∙ place.3) in
+      let here = pass_getD (λ p. test p.0 p.1) (m.entries) place.0 (n, x) h (omega (arith, length-zip (keys m) (values m), place.1, place.2)) in
+      subst (λ k. T (test k x)) (sym same) (subst (λ v. T (test (get_or (keys m) place.0 n) v)) place.4 (subst (λ p. T (test p.0 p.1)) (get_or-zip (keys m) (values m) place.0 (n, x) place.1 place.2) here))
 
   pub every_from : (test : ℕ → X → Bool) (m : BTreeMap ℕ X) → IsOrdered nat_cmp m → ((n : ℕ) (x : X) → table m n ≡ Some x → T (test n x)) → T (every test m)
   every_from test m o h =
       pass_each (λ p. test p.0 p.1) (m.entries)
       (λ i d l.
-      let first : i < length (keys m) = omega (arith, length_zip (keys m) (values m)) in
-      let second : i < length (values m) = omega (arith, length_zip (keys m) (values m)) in
-      subst (λ p. T (test p.0 p.1)) (sym (get_or_zip (keys m) (values m) i d first second)) (h _ _ (btree_map_get_place nat_cmp_total m i d.0 d.1 o first)))
+      let first : i < length (keys m) = omega (arith, length-zip (keys m) (values m)) in
+      let second : i < length (values m) = omega (arith, length-zip (keys m) (values m)) in
+      subst (λ p. T (test p.0 p.1)) (sym (get_or-zip (keys m) (values m) i d first second)) (h _ _ (btree_map_get_place nat_cmp_total m i d.0 d.1 o first)))
 
   at_passes : (p : ℕ → Bool) (m : BTreeMap ℕ X) → T (list_all p (keys m)) → (q : ℕ) → is_some (table m q) ≡ true → T (p q)
   at_passes p m h q e = go (table m q) refl e
@@ -101,7 +101,7 @@ module _ {X : Type 0} where
       go None is some = absurd (false≢true some)
       go (Some v) is some =
           let place = place_from_lookup (eq_by_cmp nat_cmp) (keys m) (values m) q v is in
-          let same : q ≡ get_or (keys m) place.0 q = eqb_true _ _ (sym (unsigned_tied q (get_or (keys m) place.0 q)) ∙ place.3) in
+          let same : q ≡ get_or (keys m) place.0 q = eqb-true _ _ (sym (unsigned_tied q (get_or (keys m) place.0 q)) ∙ place.3) in
           subst (λ k. T (p k)) (sym same) (pass_getD p (keys m) place.0 q h place.1)
 
   pub in_range : (high : ℕ) (m : BTreeMap ℕ X) → Numbered high m → (q : ℕ) → is_some (table m q) ≡ true → between 1 high q ≡ true
@@ -125,10 +125,10 @@ module _ {X : Type 0} where
   pub numbered_sets : (high : ℕ) (m n : BTreeMap ℕ X) (k : ℕ) (w : Option X) → Updates ByNumber m n k w → Numbered high m → (is_some w ≡ true → T (between 1 high k)) → Numbered high n
   numbered_sets high m n k w s o here =
       let is = (s nat_cmp_total (ordered high m o)).0 in
-      (valid_from_btree_map nat_cmp n is, passes_from_at (between 1 high) n is (λ q some. go q (eqb q k) refl (sym (ap (λ (f : ℕ → Option X). is_some (f q)) (table_sets high m n k w s o)) ∙ some)))
+      (valid-from-btree-map nat_cmp n is, passes_from_at (between 1 high) n is (λ q some. go q (eqb q k) refl (sym (ap (λ (f : ℕ → Option X). is_some (f q)) (table_sets high m n k w s o)) ∙ some)))
     where
       go : (q : ℕ) (b : Bool) → eqb q k ≡ b → is_some (cond (eqb q k) w (table m q)) ≡ true → T (between 1 high q)
-      go q true e some = subst (λ k. T (between 1 high k)) (sym (eqb_true q k e)) (here (rw e at some))
+      go q true e some = subst (λ k. T (between 1 high k)) (sym (eqb-true q k e)) (here (rw e at some))
       go q false e some = at_passes (between 1 high) m o.1 q (rw e at some)
 
   pub every_sets : (high : ℕ) (test : ℕ → X → Bool) (m n : BTreeMap ℕ X) (k : ℕ) (w : Option X) → Updates ByNumber m n k w → Numbered high m → T (every test m) → ((x : X) → w ≡ Some x → T (test k x)) → T (every test n)
@@ -136,7 +136,7 @@ module _ {X : Type 0} where
       every_from test n (s nat_cmp_total (ordered high m o)).0 (λ q x is. go q x (eqb q k) refl (sym (ap (λ (f : ℕ → Option X). f q) (table_sets high m n k w s o)) ∙ is))
     where
       go : (q : ℕ) (x : X) (b : Bool) → eqb q k ≡ b → cond (eqb q k) w (table m q) ≡ Some x → T (test q x)
-      go q x true e is = subst (λ k. T (test k x)) (sym (eqb_true q k e)) (here x (rw e at is))
+      go q x true e is = subst (λ k. T (test k x)) (sym (eqb-true q k e)) (here x (rw e at is))
       go q x false e is = every_at test m h q x (rw e at is)
 
   -- after a key is taken out
@@ -151,7 +151,7 @@ module _ {X : Type 0} where
 
   pub numbered_unchanged : (high : ℕ) (m n : BTreeMap ℕ X) → IsUnchanged m n → Numbered high m → Numbered high n
   numbered_unchanged high m n u o = (
-    (ap length u.1 ∙ o.0.0 ∙ sym (ap length u.0), subst (λ ks. T (is_strictly_sorted_by (λ x y. nat_cmp x y) ks)) (sym u.0) o.0.1),
+    (ap length u.1 ∙ o.0.0 ∙ sym (ap length u.0), subst (λ ks. T (is-strictly-sorted-by (λ x y. nat_cmp x y) ks)) (sym u.0) o.0.1),
     subst (λ ks. T (list_all (between 1 high) ks)) (sym u.0) o.1,
   )
 

@@ -4,7 +4,7 @@ use Rattle.std.specs.BTreeMap.{keys, values}
 use Rattle.std.specs.List.{zip, range_with_len}
 use Rattle.std.specs.Option.{option_map}
 use Rattle.std.proofs.lemmas.List.{at_drop_more, at_drop_all}
-use Rattle.std.proofs.lemmas.Bool.{eq_eqb, ne_eqb}
+use Rattle.std.proofs.lemmas.Bool.{eq-eqb, ne_eqb}
 use Rattle.records.specs.declared.circuit.Circuit.{Circuit}
 use Rattle.records.specs.declared.circuit.LegUse.{LegUse}
 use Rattle.records.specs.declared.leg.Leg.{Leg}
@@ -41,7 +41,7 @@ module _ (leg : ℕ) (xs : List LegUse) (i : ℕ) (u : LegUse) (l : i < length x
 
   pub among_here : u.leg.value ≡ leg → among leg (drop i xs) ≡ true
   among_here h =
-      at_drop_more (among leg) xs i u l ∙ ap (λ v. among leg (v ∷ drop (i + 1) xs)) (sym is) ∙ ap (λ b. b || among leg (drop (i + 1) xs)) (eq_eqb _ leg h)
+      at_drop_more (among leg) xs i u l ∙ ap (λ v. among leg (v ∷ drop (i + 1) xs)) (sym is) ∙ ap (λ b. b || among leg (drop (i + 1) xs)) (eq-eqb _ leg h)
 
 pub among_none : (leg : ℕ) (xs : List LegUse) (i : ℕ) → length xs ≤ i → among leg (drop i xs) ≡ false
 among_none leg xs i l = at_drop_all (among leg) xs i l

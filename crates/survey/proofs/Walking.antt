@@ -1,8 +1,8 @@
 -- Leg by leg along a circuit that is to be joined. Assumes nothing.
-use Rattle.std.proofs.Common.{◌≡◌, ℕ, zero, suc, ◌+◌, ◌<◌, ◌≤◌, Bool, true, false, cond, not, ◌||◌, eqb, List, [], ◌∷◌, ◌++◌, map, reverse, length, get_or, take, drop, is_some, Some, None, Option, sym, refl, ap, ◌∙◌, subst, ap₂, add_one, arith}
+use Rattle.std.proofs.Common.{◌≡◌, ℕ, zero, suc, ◌+◌, ◌<◌, ◌≤◌, Bool, true, false, cond, not, ◌||◌, eqb, List, [], ◌∷◌, ◌++◌, map, reverse, length, get_or, take, drop, is_some, Some, None, Option, sym, refl, ap, ◌∙◌, subst, ap₂, add-one, arith}
 use Rattle.std.specs.Option.{option_map, option_to_list}
-use Rattle.std.proofs.lemmas.List.{at_drop_more, at_drop_all, drop_more, take_more, map_push, reverse_append}
-use Rattle.std.proofs.lemmas.Bool.{eq_eqb, ne_eqb}
+use Rattle.std.proofs.lemmas.List.{at_drop_more, at_drop_all, drop_more, take_more, map_push, reverse-append}
+use Rattle.std.proofs.lemmas.Bool.{eq-eqb, ne_eqb}
 use Rattle.records.specs.declared.refusal.Reason.TheVariants.{Absent, Twice, Broken}
 use Rattle.records.specs.declared.refusal.Refusal.{Refusal}
 use Rattle.records.specs.Circuits.{UseRecord, use_read, use_unranged, use_ranged}
@@ -45,7 +45,7 @@ or_false false = refl
 pub names_reverse : (n : ℕ) (xs : List UseRecord) → names n (reverse xs) ≡ names n xs
 names_reverse n [] = refl
 names_reverse n (x ∷ xs) =
-    ap (names n) (reverse_append (x ∷ []) xs)
+    ap (names n) (reverse-append (x ∷ []) xs)
     ∙ names_append n (reverse xs) (x ∷ [])
     ∙ ap₂ ◌||◌ (names_reverse n xs) (or_false (eqb x.leg n))
     ∙ or_comm (names n xs) (eqb x.leg n)
@@ -82,7 +82,7 @@ module _ (legs : ℕ → Option LegRecord) (before : List UseRecord) (i : ℕ) (
     breaks_first node once apart = broken_first (Some node) once (ap not (ne_eqb node (begins u.sense l) (λ e. apart (sym e))))
 
     pub goes_first : (node : ℕ) → names u.leg before ≡ false → begins u.sense l ≡ node → first (chain_refusals legs before (Some node) i (u ∷ us)) ≡ first (chain_refusals legs (u ∷ before) (Some (ends u.sense l)) (suc i) us)
-    goes_first node once same = next_first (Some node) once (ap not (eq_eqb node (begins u.sense l) (sym same)))
+    goes_first node once same = next_first (Some node) once (ap not (eq-eqb node (begins u.sense l) (sym same)))
 
     pub runs_first : runs legs (u ∷ us) ≡ record { leg = l; sense = u.sense } ∷ runs legs us
     runs_first = ap (λ o. option_to_list (run_of u o) ++ runs legs us) stands
@@ -106,7 +106,7 @@ module _ (ws : List ℕ) (i : ℕ) (h : i < length ws) where
   later_is = ap (map use_read) (drop_more ws i 0 h)
 
   before_is : before ws (i + 1) ≡ use_read (get_or ws i 0) ∷ before ws i
-  before_is = ap (λ xs. reverse (map use_read xs)) (take_more ws i 0 h) ∙ ap reverse (map_push use_read (take i ws) (get_or ws i 0)) ∙ reverse_append (map use_read (take i ws)) (use_read (get_or ws i 0) ∷ [])
+  before_is = ap (λ xs. reverse (map use_read xs)) (take_more ws i 0 h) ∙ ap reverse (map_push use_read (take i ws) (get_or ws i 0)) ∙ reverse-append (map use_read (take i ws)) (use_read (get_or ws i 0) ∷ [])
 
   module _ (legs : ℕ → Option LegRecord) where
     abbrev here : UseRecord

@@ -1,6 +1,4 @@
 // Books on the order of their refusals, and on the limits of a grade.
-#![tactic(auto)]
-
 #[cfg(test)]
 mod grades;
 #[cfg(test)]

@@ -1,4 +1,4 @@
-use Rattle.std.proofs.Common.{◌≡◌, ◌+◌, ◌≤◌, cond, map, length, sym, refl, ap, ◌∙◌, subst, add_zero, arith, rules}
+use Rattle.std.proofs.Common.{◌≡◌, ◌+◌, ◌≤◌, cond, map, length, sym, refl, ap, ◌∙◌, subst, add-zero, arith, rules}
 use Rattle.std.specs.BTreeMap.{values}
 use Rattle.std.specs.Slice.Iter.{iter_rest}
 use Rattle.plainbook.specs.Findings.{whole_finding}
@@ -33,7 +33,7 @@ loop-circuit-preserved g c =
     let few : c.if-finding.circuits ≤ n + 1 = elim c.if-finding.branch [ then-finding w ↦ omega (arith, w.circuits-is) | else-finding w ↦ omega (arith, w.circuits-is) ] in (
       counted_turn (circuit_shown (g.Q.Quantity.meaning b.quantity) b) (iter_rest c.loop-circuit.circuit-iterator) (iter_rest c.next.new.self) c.in-Some.circuit.now c.finding-of-finding.result n c.if-finding.circuits c.loop-circuit.closures c.saturating-add-closures.result _ turn
           c.finding-of-finding.ensures
-          (elim c.if-finding.branch [ then-finding w ↦ w.circuits-is ∙ sym (ap (λ b. n + cond b 1 0) w.if-finding.true) | else-finding w ↦ w.circuits-is ∙ sym (add_zero n) ∙ sym (ap (λ b. n + cond b 1 0) w.if-finding.false) ])
+          (elim c.if-finding.branch [ then-finding w ↦ w.circuits-is ∙ sym (ap (λ b. n + cond b 1 0) w.if-finding.true) | else-finding w ↦ w.circuits-is ∙ sym (add-zero n) ∙ sym (ap (λ b. n + cond b 1 0) w.if-finding.false) ])
           c.saturating-add-closures.ensures c.loop-circuit.invariant.0,
       omega (arith, few, c.loop-circuit.invariant.1, ap length turn),
       omega (arith, c.saturating-add-closures.ensures),

@@ -1,5 +1,5 @@
 use Rattle.std.proofs.Common.{◌≡◌, ◌≤◌, length, Some, sym, refl, ap, ◌∙◌, arith, rules}
-use Rattle.std.proofs.lemmas.Bool.{lt_ltb, le-ltb}
+use Rattle.std.proofs.lemmas.Bool.{lt-ltb, le-ltb}
 use Rattle.std.proofs.lemmas.Result.{err_from_is_err_and}
 use Rattle.survey.specs.Books.{plain_book, surveyed}
 use Rattle.listing.specs.Answered.{is_listed}
@@ -44,7 +44,7 @@ returns-then-words-count g c =
     let ws = c.args.words.now in
     let q = g.Q.Quantity.meaning b.quantity in
     let s = g.S.Standard.meaning b.standard in
-    let out = refused g.Q.Quantity.meaning g.S.Standard.meaning (plain_book b) n ws _ (too_few q s (surveyed b) n (length ws) c.in-Some.class (sym c.in-Some.ensures.value) (was_given _ tt _ c.in-ok-check-grade.ensures).0 c.list-all-count.result c.list-all-count.ensures.count (lt_ltb _ _ c.if-words-count.true) ∙ ap Some (sym c.refuse-then-words-count.ensures)) in
+    let out = refused g.Q.Quantity.meaning g.S.Standard.meaning (plain_book b) n ws _ (too_few q s (surveyed b) n (length ws) c.in-Some.class (sym c.in-Some.ensures.value) (was_given _ tt _ c.in-ok-check-grade.ensures).0 c.list-all-count.result c.list-all-count.ensures.count (lt-ltb _ _ c.if-words-count.true) ∙ ap Some (sym c.refuse-then-words-count.ensures)) in
     record { answer = out.0; words = out.1 }
 
 pub returns : goal.returns

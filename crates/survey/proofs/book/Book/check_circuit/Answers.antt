@@ -1,4 +1,4 @@
-use Rattle.std.proofs.Common.{◌≡◌, ℕ, ◌-◌, ◌<◌, ◌≤◌, [], map, length, take, drop, is_some, Some, None, Ok, Err, sym, refl, ap, ◌∙◌, subst, arith, length_drop}
+use Rattle.std.proofs.Common.{◌≡◌, ℕ, ◌-◌, ◌<◌, ◌≤◌, [], map, length, take, drop, is_some, Some, None, Ok, Err, sym, refl, ap, ◌∙◌, subst, arith, length-drop}
 use Rattle.std.proofs.lemmas.List.{take_rest}
 use Rattle.std.proofs.lemmas.Result.{err_from_is_err_and}
 use Rattle.records.specs.Circuits.{HeadRecord, circuit_record, circuit_read, head_of, use_read, use_unranged}
@@ -56,7 +56,7 @@ chain-requires g c =
     let ws = c.args.words.now in
     let read = was_given _ (head_of (circuit_read ws)) _ c.in-ok-head.ensures in
     let many = some_uses ws read.0 in
-    let long = ap length (take_rest ws 2) ∙ length_drop 2 ws in
+    let long = ap length (take_rest ws 2) ∙ length-drop 2 ws in
     record { ranged = ap (use_unranged 2) (take_rest ws 2) ∙ uses_ranged ws read.0; some = omega (arith, many, long); few = few ws read.0 }
 
 pub returns-in-err-form : goal.returns-in-err-form

@@ -1,6 +1,6 @@
 use Rattle.std.proofs.Common.{◌≡◌, Some, sym, refl, ap, ◌∙◌}
 use Rattle.std.proofs.lemmas.Result.{err_from_is_err_and}
-use Rattle.std.proofs.lemmas.Bool.{eq_eqb}
+use Rattle.std.proofs.lemmas.Bool.{eq-eqb}
 use Rattle.records.specs.Legs.{leg_record, leg_read}
 use Rattle.records.specs.Refusals.{first}
 use Rattle.plainbook.specs.Refusals.{enter_refusals}
@@ -39,7 +39,7 @@ invariant-of-self g c =
       (
         b.circuits_numbered,
         (
-          every_inserted 128 own_leg b.legs after n l _ inserted b.legs_numbered b.own_legs (passes _ (eq_eqb n n refl)),
+          every_inserted 128 own_leg b.legs after n l _ inserted b.legs_numbered b.own_legs (passes _ (eq-eqb n n refl)),
           (
             b.own_circuits,
             (entered_chained q s b ws l after given.1 _ inserted given.0, tt),

@@ -1,6 +1,6 @@
 use Rattle.std.proofs.Common.{◌≡◌, Some, sym, refl, ap, ◌∙◌}
 use Rattle.std.proofs.lemmas.Result.{err_from_is_err_and}
-use Rattle.std.proofs.lemmas.Bool.{eq_eqb}
+use Rattle.std.proofs.lemmas.Bool.{eq-eqb}
 use Rattle.records.specs.Circuits.{circuit_record, circuit_read}
 use Rattle.records.specs.Refusals.{first}
 use Rattle.plainbook.specs.Refusals.{join_refusals}
@@ -58,7 +58,7 @@ invariant-of-self g c =
         (
           b.own_legs,
           (
-            every_inserted 32 own_circuit b.circuits after n circuit _ inserted b.circuits_numbered b.own_circuits (passes _ (eq_eqb n n refl)),
+            every_inserted 32 own_circuit b.circuits after n circuit _ inserted b.circuits_numbered b.own_circuits (passes _ (eq-eqb n n refl)),
             (joined_chained q s b ws circuit after is _ inserted numbered none, tt),
           ),
         ),
