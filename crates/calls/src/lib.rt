@@ -1,3 +1,5 @@
 // Calls on a book as values, and lists of them carried out, each answered as the plain book answers.
+#![tactic(auto)]
+
 pub mod call;
 pub mod carrying;

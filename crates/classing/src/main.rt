@@ -1,4 +1,6 @@
 // Classing: answers the calls in the inputs that its arguments name, or on standard input.
+#![tactic(auto)]
+
 mod answer;
 mod call;
 mod classes;

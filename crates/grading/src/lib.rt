@@ -1,4 +1,6 @@
 // A survey's book judged: what it shows, and its grade.
+#![tactic(auto)]
+
 pub mod collect;
 pub mod findings;
 pub mod grade;

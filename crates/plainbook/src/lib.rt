@@ -1,4 +1,6 @@
 // The plain book: a survey's book as definitions, and what is promised of every way to use it.
+#![tactic(auto)]
+
 ghost use Rattle.std.specs.Prelude.{◌≡◌};
 ghost use Rattle.plainbook.specs.Examples.{Examples};
 ghost use Rattle.plainbook.specs.Figures.{Figures};

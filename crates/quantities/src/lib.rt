@@ -1,4 +1,6 @@
 // Quantities: what a leg carries and a circuit sums.
+#![tactic(auto)]
+
 pub mod acceptance;
 pub mod angles;
 pub mod heights;

@@ -1,4 +1,6 @@
 // Field-book records: the words of a leg and of a circuit, and the refusals.
+#![tactic(auto)]
+
 pub mod circuit;
 pub mod layout;
 pub mod leg;

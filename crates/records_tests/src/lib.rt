@@ -1,4 +1,6 @@
 // Records on the limits of their layout and of their ranges.
+#![tactic(auto)]
+
 #[cfg(test)]
 mod circuits;
 #[cfg(test)]

@@ -1,4 +1,6 @@
 // The standards: classes and sets of them, findings, the rules of a standard, its two tables, and how classes are gathered.
+#![tactic(auto)]
+
 pub mod acceptance;
 pub mod class;
 pub mod class_set;

@@ -1,4 +1,6 @@
 // The limits of both tables, tried on each limit and on either side of it.
+#![tactic(auto)]
+
 #[cfg(test)]
 mod level;
 #[cfg(test)]
