@@ -20,7 +20,7 @@ WORD = re.compile(r"[^\W\d][\w']*")
 CLAUSE = re.compile(r"^\s*(requires|ensures|ghost|decreases|invariant)\b")
 FIELD = re.compile(r"^\s+pub ([^\W\d_][\w']*(?:-[\w']+)+) :")
 # names that a file takes from a crate
-TAKEN = re.compile(r"^\s*(?:ghost )?use Rattle\.(\w+)\.[\w.'+]*\.\{([^}]*)\}", re.M)
+TAKEN = re.compile(r"^\s*(?:ghost )?use (?:Rattle\.)?(\w+)\.[\w.'+]*\{([^}]*)\}", re.M)
 # a lemma in a function's proof file, and no answer
 LEMMA = re.compile(r"^(?:pub |abbrev pub |abbrev )?([^\W\d_][\w']*(?:-[\w']+)+) :(?! goal\.)")
 

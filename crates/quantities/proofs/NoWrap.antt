@@ -1,7 +1,7 @@
 -- The sums of heights over a circuit's legs stay far below half of 2^64.
 use Rattle.std.proofs.Common.{◌≡◌, ℕ, ◌*◌, ◌^◌, ◌<◌, ◌≤◌, true, ◌&&◌, leb, List, [], ◌∷◌, map, length, ℤ, pos, neg_ℤ, nat_abs, Some, None, Option, refl, ap, ◌∙◌, arith, lit<, lit≤}
 use borrow.Author.Differences.{ints}
-use lib.ListN.{length_map}
+use lib.ListN.{length-map}
 use lib.Signed.{le_z}
 use Rattle.std.proofs.lemmas.Bool.{and_parts, leb-true}
 use Rattle.std.specs.List.{AllByRecursion as All}
@@ -55,7 +55,7 @@ map_through f g agrees (leg ∷ legs) = λ i. agrees leg i ∷ map_through f g a
 true_total : (f : LegRun → Height) (g : LegRun → ℤ) → ((leg : LegRun) → f leg ≡ height_residues.element (g leg)) → Within g → (legs : List LegRun) → is_leg_count (length legs) ≡ true → all_accepted heights_terms legs ≡ true → signed_form height_modulus (total heights_terms (map f legs)).residue ≡ whole_sum (map g legs)
 true_total f g agrees within legs count accepted =
     let few = leb-true (length legs) 16 (and_parts (leb 1 (length legs)) (leb (length legs) 16) count).1 in
-    let short : 2 * (length (map g legs) * (2 * greatest_height)) < height_modulus = omega (arith, few, length_map legs g) in
+    let short : 2 * (length (map g legs) * (2 * greatest_height)) < height_modulus = omega (arith, few, length-map legs g) in
     ap (λ xs. signed_form height_modulus (total heights_terms xs).residue) (map_through f g agrees legs)
     ∙ summed_near height_modulus (lit< tt) height_residues (lit≤ tt) heights (2 * greatest_height) (map g legs) (all_within g within legs accepted) short
 

@@ -1,6 +1,6 @@
 -- Whole numbers and their least residues: sums, opposites, and the way back.
 use Rattle.std.proofs.Common.{◌≡◌, ℕ, zero, suc, ◌+◌, ◌-◌, ◌*◌, ◌/◌, ◌%◌, ◌^◌, ◌<◌, ◌≤◌, leb, ◌⊎◌, ℤ, pos, negsuc, ◌+ℤ◌, ◌-ℤ◌, neg_ℤ, nat_abs, sym, refl, ap, ◌∙◌, subst, inl, inr, mod-lt, mod-eq_of_lt, add-mul, div-add-mod', zero-add, arith, lit<, w64, SFits, of_z}
-use native.Mathlib.Nat.{add_mod, add_mul_mod_self_right, zero_mod, sub_zero, mod_self}
+use native.Mathlib.Nat.{add-mod, add-mul-mod_self_right, zero-mod, sub-zero, mod_self}
 use borrow.Author.Differences.{up, down, sum_is_lem, ints}
 use Rattle.std.proofs.lemmas.Bool.{cases_lt, cond-true, cond-false, le-leb, lt-leb}
 use Rattle.quantities.specs.Residues.{residue_plus, residue_opposite, residue_size, least_residue, signed_form, SignedRange}
@@ -8,7 +8,7 @@ use Rattle.quantities.specs.ResidueLaws.{opposite_cases}
 
 -- numbers that differ by multiples of m have one residue
 pub same_residue : (m x j y k : ℕ) → x + j * m ≡ y + k * m → x % m ≡ y % m
-same_residue m x j y k e = sym (add_mul_mod_self_right x j m) ∙ ap (λ n. n % m) e ∙ add_mul_mod_self_right y k m
+same_residue m x j y k e = sym (add-mul-mod_self_right x j m) ∙ ap (λ n. n % m) e ∙ add-mul-mod_self_right y k m
 
 module _ (m : ℕ) (positive : 0 < m) where
   -- a whole number, as the difference of its two parts
@@ -18,7 +18,7 @@ module _ (m : ℕ) (positive : 0 < m) where
   least_difference : (z : ℤ) → least_residue m z ≡ difference z % m
   unfolding difference
   least_difference (pos n) =
-      same_residue m n 1 (n + (m - 0 % m)) 0 (omega (arith, zero_mod m))
+      same_residue m n 1 (n + (m - 0 % m)) 0 (omega (arith, zero-mod m))
   least_difference (negsuc n) = ap (λ k. k % m) (sym (zero-add (m - suc n % m)))
 
   pub least_sum : (a b : ℤ) → least_residue m (a +ℤ b) ≡ residue_plus m (least_residue m a) (least_residue m b)
@@ -41,7 +41,7 @@ module _ (m : ℕ) (positive : 0 < m) where
       ) in
       least_difference s
       ∙ same_residue m (difference s) (q a + q b + 1) (difference a + difference b) (q s) shifted
-      ∙ add_mod (difference a) (difference b) m
+      ∙ add-mod (difference a) (difference b) m
       ∙ ap (λ n. (n + difference b % m) % m) (sym (least_difference a))
       ∙ ap (λ n. (least_residue m a + n) % m) (sym (least_difference b))
 
@@ -66,7 +66,7 @@ module _ (m : ℕ) (positive : 0 < m) where
 
   pub least_opposite : (z : ℤ) → least_residue m (neg_ℤ z) ≡ residue_opposite m (least_residue m z)
   least_opposite (pos zero) =
-      zero_mod m ∙ sym (ap (residue_opposite m) (zero_mod m) ∙ ap (λ n. n % m) (sub_zero m) ∙ mod_self m)
+      zero-mod m ∙ sym (ap (residue_opposite m) (zero-mod m) ∙ ap (λ n. n % m) (sub-zero m) ∙ mod_self m)
   least_opposite (pos (suc n)) = refl
   least_opposite (negsuc n) = sym (opposite_twice (suc n % m) (mod-lt (suc n) positive))
 

@@ -1,6 +1,6 @@
 -- What is gathered over findings and rules, and what findings that are no worse miss.
 use Rattle.std.proofs.Common.{◌≡◌, ℕ, zero, suc, ◌+◌, ◌<◌, ◌≤◌, Bool, true, false, ◌&&◌, List, [], ◌∷◌, length, get_or, drop, Decides, sym, refl, ap, ◌∙◌, ap₂, inl, inr, ⊎_elim, add-one, drop-cons}
-use mathlib.Core.Bool.{and_true}
+use mathlib.Core.Bool.{and-true}
 use Rattle.std.specs.List.{AllZip, HoldsAt, AllByRecursion as All}
 use Rattle.std.proofs.lemmas.List.Elements.{AllZip-get_or}
 use Rattle.std.proofs.lemmas.List.{drop_all}
@@ -54,7 +54,7 @@ module _ {Finding : Type 0} {kind : Kind Finding} {better : Directions} (table :
   pub finding_last : (fs : List Finding) (i : ℕ) (k : Class) {m : Bool} → length fs ≤ i
       → (m && all_meet table (drop i fs) k) ≡ all_meet table fs k → m ≡ all_meet table fs k
   finding_last fs i k {m} past left =
-      sym (and_true m) ∙ ap (λ l. m && all_meet table l k) (sym (drop_all i fs past)) ∙ left
+      sym (and-true m) ∙ ap (λ l. m && all_meet table l k) (sym (drop_all i fs past)) ∙ left
 
   pub decides_all_meet : (fs : List Finding) (k : Class) → Decides (all_meet table fs k) (AllMeet table fs k)
   decides_all_meet fs k =
