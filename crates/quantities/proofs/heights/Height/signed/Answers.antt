@@ -17,5 +17,5 @@ returns c =
       range = near.range;
       same_residue = near.same_residue;
       size = near.size;
-      true-sums = heights_never_wrap;
+      true_sums = heights_never_wrap;
     }

@@ -8,4 +8,4 @@ pub returns : goal.returns
 returns c =
     let z = c.args.difference in
     let fits = c.ranges.difference in
-    same_height _ _ (c.cast-unsigned.ensures ∙ ap (of_z w64) (to_z-of_z w64 z fits) ∙ bits_least z fits)
+    same_height _ _ (c.cast_unsigned.ensures ∙ ap (of_z w64) (to_z-of_z w64 z fits) ∙ bits_least z fits)

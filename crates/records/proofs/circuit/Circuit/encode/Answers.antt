@@ -8,30 +8,30 @@ use Rattle.records.proofs.Circuits.{words_more}
 use Rattle.records.proofs.CircuitLaws.{circuits_read_back}
 use Rattle.records.proofs.circuit.Circuit.encode.Goals as goal
 
-pub returns-in-err-words : goal.returns-in-err-words
-returns-in-err-words c = record { words = IfOk-from_err _ _ c.from-residual.ensures.0; law = circuits_read_back }
+pub returns-in_err-words : goal.returns-in_err-words
+returns-in_err-words c = record { words = IfOk-from_err _ _ c.from_residual.ensures.0; law = circuits_read_back }
 
-pub loop-leg-use-init : goal.loop-leg-use-init
-loop-leg-use-init c =
+pub loop-leg_use-init : goal.loop-leg_use-init
+loop-leg_use-init c =
     let n = c.args.self.now.number.value in
-    let items : vec_items c.in-ok-words.words ≡ c.under.result ∷ (c.under-2.result ∷ []) = search rules in
+    let items : vec_items c.in_ok-words.words ≡ c.under.result ∷ (c.under-2.result ∷ []) = search rules in
     let head : n * 2 ^ 20 + 0 * 2 ^ 10 + 0 ≡ n * 2 ^ 20 = omega arith in
     items ∙ ap₂ (λ x y. x ∷ (y ∷ [])) (c.under.ensures ∙ ap (word kinds.Circuit) (c.packed-head.ensures ∙ head)) c.under-2.ensures
 
-pub returns-in-err-push : goal.returns-in-err-push
-returns-in-err-push c = record { words = IfOk-from_err _ _ c.from-residual-in-err-push.ensures.0; law = circuits_read_back }
+pub returns-in_err-push : goal.returns-in_err-push
+returns-in_err-push c = record { words = IfOk-from_err _ _ c.from_residual-in_err-push.ensures.0; law = circuits_read_back }
 
-pub loop-leg-use-preserved : goal.loop-leg-use-preserved
-loop-leg-use-preserved c =
-    words_more _ _ _ _ c.deref-leg-use-items.result.now c.loop-leg-use.leg-use-index _ _ c.loop-leg-use-test.true c.loop-leg-use.invariant c.in-ok-push.ensures.items c.word.ensures
-    c.leg-use-item.is
+pub loop-leg_use-preserved : goal.loop-leg_use-preserved
+loop-leg_use-preserved c =
+    words_more _ _ _ _ c.deref-leg_use-items.result.now c.loop-leg_use.leg_use-index _ _ c.loop-leg_use-test.true c.loop-leg_use.invariant c.in_ok-push.ensures.items c.word.ensures
+    c.leg_use-item.is
 
 pub returns : goal.returns
 returns c =
     let b = c.args.self.now in
     record {
       words =
-          c.loop-leg-use.invariant
-          ∙ ap (λ us. word kinds.Circuit (b.number.value * 2 ^ 20) ∷ (word kinds.Due b.due.bits ∷ map use_word (map use_record us))) (take_all _ _ c.loop-leg-use-test.false ∙ c.deref-leg-use-items.ensures.value);
+          c.loop-leg_use.invariant
+          ∙ ap (λ us. word kinds.Circuit (b.number.value * 2 ^ 20) ∷ (word kinds.Due b.due.bits ∷ map use_word (map use_record us))) (take_all _ _ c.loop-leg_use-test.false ∙ c.deref-leg_use-items.ensures.value);
       law = circuits_read_back;
     }

@@ -9,7 +9,7 @@ pub unreachable-requires : goal.unreachable-requires
 unreachable-requires c =
     let i = c.loop-word.word-index in
     let good = still_ranged c.args.words.now i (2 + i) 0 c.loop-word-test.true c.loop-word.invariant.0 in
-    both_ways _ (sym (read_some None _ _ c.in-default.ensures)) good.0
+    both_ways _ (sym (read_some None _ _ c.in_default.ensures)) good.0
 
 pub loop-word-preserved : goal.loop-word-preserved
 loop-word-preserved c =
@@ -18,7 +18,7 @@ loop-word-preserved c =
     let good = still_ranged ws i (2 + i) 0 c.loop-word-test.true c.loop-word.invariant.0 in
     let more : 2 + (i + 1) ≡ suc (2 + i) = omega arith in (
       ap (λ j. use_unranged j (drop (i + 1) ws)) more ∙ good.1,
-      read_more _ _ c.in-Some.leg-use ws i 0 c.loop-word-test.true c.in-ok-push.ensures.items c.loop-word.invariant.1 (read_is c.in-Some.leg-use _ _ c.in-Some.ensures),
+      read_more _ _ c.in-Some.leg_use ws i 0 c.loop-word-test.true c.in_ok-push.ensures.items c.loop-word.invariant.1 (read_is c.in-Some.leg_use _ _ c.in-Some.ensures),
     )
 
 pub returns : goal.returns

@@ -16,15 +16,15 @@ returns c =
     let number = passed is_leg_number c.high.result c.in-Some.number.value c.in-Some.ensures in
     let start = passed is_node c.middle.result c.in-Some-new.start.value c.in-Some-new.ensures in
     let end = passed is_node c.low.result c.in-Some-new-2.end.value c.in-Some-new-2.ensures in
-    let back : back_read (drop 4 ws) ≡ option_map (λ p. p.bits) c.if-rest-lt1.back = elim c.if-rest-lt1.branch [ in-empty w ↦ no_back ws (search rules) ∙ sym (ap (option_map (λ p. p.bits)) w.back-is) | in-len1 w ↦ one_back ws _ (search rules) w.of-word.ensures ∙ sym (ap (option_map (λ p. p.bits)) w.back-is) ] in
-    sym (accepted ws _ (laid _ _ c.in-ok-check.ensures)
-    (same_leg (sym (number ∙ c.high.ensures ∙ ap (bits 20 8) c.of-word-head.ensures))
-    (sym (start ∙ c.middle.ensures ∙ ap (bits 10 10) c.of-word-head.ensures))
-    (sym (end ∙ c.low.ensures ∙ ap (bits 0 10) c.of-word-head.ensures))
-    (sym c.of-word-2.ensures)
-    (sym c.of-word-metres.ensures)
-    (sym (c.high-a.ensures ∙ ap (bits 20 8) c.of-word-readings.ensures))
-    (sym (c.middle-b.ensures ∙ ap (bits 10 10) c.of-word-readings.ensures))
-    (sym (c.low-c.ensures ∙ ap (bits 0 10) c.of-word-readings.ensures))
+    let back : back_read (drop 4 ws) ≡ option_map (λ p. p.bits) c.if-rest-lt1.back = elim c.if-rest-lt1.branch [ in-empty w ↦ no_back ws (search rules) ∙ sym (ap (option_map (λ p. p.bits)) w.back-is) | in-len1 w ↦ one_back ws _ (search rules) w.of_word.ensures ∙ sym (ap (option_map (λ p. p.bits)) w.back-is) ] in
+    sym (accepted ws _ (laid _ _ c.in_ok-check.ensures)
+    (same_leg (sym (number ∙ c.high.ensures ∙ ap (bits 20 8) c.of_word-head.ensures))
+    (sym (start ∙ c.middle.ensures ∙ ap (bits 10 10) c.of_word-head.ensures))
+    (sym (end ∙ c.low.ensures ∙ ap (bits 0 10) c.of_word-head.ensures))
+    (sym c.of_word-2.ensures)
+    (sym c.of_word-metres.ensures)
+    (sym (c.high-a.ensures ∙ ap (bits 20 8) c.of_word-readings.ensures))
+    (sym (c.middle-b.ensures ∙ ap (bits 10 10) c.of_word-readings.ensures))
+    (sym (c.low-c.ensures ∙ ap (bits 0 10) c.of_word-readings.ensures))
     back)
     (in_range c.in-Some.number.value c.in-Some-new.start.value c.in-Some-new-2.end.value c.in-Some.number.ranged c.in-Some-new.start.ranged c.in-Some-new-2.end.ranged (ne_eqb _ _ c.if-start-end.false)))
