@@ -1,17 +1,16 @@
 -- Five bits as a set of classes: facts of the 32 sets, each computed at every one of them.
-use Rattle.std.proofs.Common.{◌≡◌, ℕ, zero, suc, ◌+◌, ◌-◌, ◌*◌, ◌/◌, ◌%◌, ◌^◌, ◌<◌, Bool, true, false, cond, ◌&&◌, eqb, List, Some, None, Option, sym, refl, ap, ◌∙◌, ap₂, arith, lit<}
+use Rattle.std.proofs.Common.{◌≡◌, ℕ, zero, suc, ◌+◌, ◌-◌, ◌*◌, ◌/◌, ◌%◌, ◌^◌, ◌<◌, Bool, true, false, cond, ◌&&◌, eqb, List, Some, None, Option, sym, refl, ap, ◌∙◌, arith, lit<}
 use mathlib.Core.HLevel.{is_prop→PathP}
 use native.Mathlib.Bridge.{le_prop}
 use lib.Bits.{bit_and, and_shr, and_mod}
-use lib.Count.{ones, ones_in, count_trailing_zeros, under}
+use lib.Count.{ones, ones_in, count_trailing_zeros}
 use mir.Val.{bool_byte}
 use Rattle.std.proofs.lemmas.Nat.{mod_below}
 use Rattle.std.proofs.lemmas.Bool.{eqb-true}
 use Rattle.std.proofs.lemmas.Bool.Decides.{Decides-below_and}
 use Rattle.standards.specs.declared.class.Class.{Class}
 use Rattle.standards.specs.declared.class.Class.TheVariants.{First, Second, Third, Fourth, Fifth}
-use Rattle.standards.specs.declared.class_set.ClassSet.{ClassSet}
-use Rattle.standards.specs.Classes.{class_number, class_at, members, least, row, entry}
+use Rattle.standards.specs.Classes.{class_number, class_at, members, least, entry}
 use Rattle.standards.specs.ClassSets.{bit, holds, SetsByMembers}
 use Rattle.standards.proofs.Bests.{of_number}
 

@@ -1,10 +1,10 @@
 -- To be no worse is a preorder, whatever the kind of finding and whichever way its readings are better.
-use Rattle.std.proofs.Common.{◌≡◌, ℕ, ◌≤◌, List, [], ◌∷◌, refl, ◌∙◌, le_trans, le_refl}
+use Rattle.std.proofs.Common.{ℕ, ◌≤◌, List, [], ◌∷◌, refl, ◌∙◌, le_trans, le_refl}
 use Rattle.std.specs.List.{AllZip}
 use Rattle.standards.specs.declared.finding.Directions.{Directions}
 use Rattle.standards.specs.declared.finding.Direction.{Direction}
 use Rattle.standards.specs.declared.finding.Direction.TheVariants.{More, Less, Equal}
-use Rattle.standards.specs.NoWorse.{Kind, NoWorse, NoWorseReading, Preorder}
+use Rattle.standards.specs.NoWorse.{Kind, NoWorseReading, Preorder}
 
 sizes_same : (xs : List ℕ) → AllZip ◌≤◌ xs xs
 sizes_same [] = tt

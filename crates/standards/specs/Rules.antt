@@ -3,9 +3,6 @@ use Rattle.std.specs.Prelude.{◌≡◌, ℕ, ◌≤◌, Bool, true}
 use Rattle.records.specs.declared.leg.Length.{Length}
 use Rattle.records.specs.declared.leg.Readings.{Readings}
 use Rattle.standards.specs.declared.class.Class.{Class}
-use Rattle.standards.specs.declared.finding.LegFinding.{LegFinding}
-use Rattle.standards.specs.declared.finding.CircuitFinding.{CircuitFinding}
-use Rattle.standards.specs.declared.finding.WholeFinding.{WholeFinding}
 use Rattle.standards.specs.declared.finding.Directions.{Directions}
 use Rattle.standards.specs.declared.finding.Form.{Form}
 use Rattle.standards.specs.NoWorse.{Kind, NoWorse, leg_kind, circuit_kind, whole_kind}

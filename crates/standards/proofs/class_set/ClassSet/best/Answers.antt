@@ -1,6 +1,6 @@
 -- The lowest set digit is the best class.
 use Rattle.std.proofs.Common.{◌≡◌, sym, ◌∙◌, subst}
-use Rattle.standards.specs.Classes.{class_at, least, Least}
+use Rattle.standards.specs.Classes.{least, Least}
 use Rattle.standards.specs.ClassSets.{holds}
 use Rattle.standards.proofs.Bests.{least_is}
 use Rattle.standards.proofs.FiveBits.{zeros_least}
