@@ -63,7 +63,7 @@ module _ (to : ℕ → ℕ) (own : (m n : ℕ) → to m ≡ to n → m ≡ n) (l
   legs_moved =
       record {
         legs = entered to own renumbered_leg _ _ (entered to own renumbered_leg _ _ (none_yet to own renumbered_leg) l.number l) m.number m;
-        circuits = λ n. renamed (eqb n c.number);
+        circuits = λ n. renamed (eqb c.number n);
       }
     where
       renamed : (b : Bool) → cond b (Some (renamed_circuit to c)) None ≡ option_map (renamed_circuit to) (cond b (Some c) None)
@@ -112,7 +112,7 @@ module _ {Finding : Type 0} (kind : Kind Finding) (better : Directions) where
   -- one entry more
   item_entered : {A : Type 0} (i j : A → Finding) (f g : ℕ → Option A) → ((n : ℕ) → NoWorseItem (option_map i (f n)) (option_map j (g n))) → (k : ℕ) (x y : A) → NoWorse kind better (j y) (i x)
       → (n : ℕ) → NoWorseItem (option_map i (update eqb f k (Some x) n)) (option_map j (update eqb g k (Some y) n))
-  item_entered i j f g h k x y here n = go (eqb n k)
+  item_entered i j f g h k x y here n = go (eqb k n)
     where
       go : (b : Bool) → NoWorseItem (option_map i (cond b (Some x) (f n))) (option_map j (cond b (Some y) (g n)))
       go true = here
