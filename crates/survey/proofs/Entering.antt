@@ -1,9 +1,10 @@
 -- What entering a leg answers, and that the book stays sound. Assumes nothing.
-use Rattle.std.proofs.Common.{◌≡◌, ℕ, Bool, true, false, T, eqb, List, [], ◌∷◌, ◌++◌, is_some, Some, None, Ok, Err, Option, Result, sym, refl, ap, ◌∙◌}
+use Rattle.std.proofs.Common.{◌≡◌, ℕ, Bool, true, false, T, eqb, List, [], ◌∷◌, ◌++◌, is_some, Some, None, Ok, Err, Option, Result, OnOk, OnErr, sym, refl, ap, ◌∙◌}
 use Rattle.std.specs.declared.alloc.AllocFailed.{AllocFailed}
 use Rattle.std.specs.BTreeMap.{BTreeMap}
-use Rattle.std.specs.BTreeMap.{Inserts, Updates}
+use Rattle.std.specs.BTreeMap.{IsUnchanged, Updates}
 use Rattle.std.specs.Map.{update}
+use Rattle.std.specs.Ordering.{nat_cmp}
 use Rattle.std.specs.Option.{option_map}
 use Rattle.records.specs.declared.leg.Leg.{Leg}
 use Rattle.records.specs.declared.refusal.Reason.TheVariants.{Taken}
@@ -24,7 +25,6 @@ use Rattle.survey.specs.Numbered.{every, Numbered}
 use Rattle.survey.specs.Standing.{standing_legs, chains_over}
 use Rattle.survey.proofs.Outcomes.{first_after, first_at, after_all, within, refused_where, not_refused}
 use Rattle.survey.proofs.Soundness.{sound, chained, read_sets, read_unchanged}
-use Rattle.survey.proofs.Tables.{ByNumber}
 
 module _ {Element : Type 0} (q : Terms Element) (s : Rules) (p : Survey) (ws : List ℕ) where
   abbrev taken : Option Refusal
@@ -61,10 +61,10 @@ module _ {Element : Type 0} (q : Terms Element) (s : Rules) (p : Survey) (ws : L
 
 module _ {Q S Element : Type 0} (q : Terms Element) (s : Rules) (b : Book Q S) (ws : List ℕ) (l : Leg) (after : BTreeMap ℕ Leg) (is : leg_record l ≡ leg_read ws) where
   -- the legs that stand after an `insert`
-  pub entered_legs : Updates ByNumber b.legs after l.number.value (Some l) → standing_legs after ≡ (with_leg (surveyed b) (leg_read ws).number (Some (leg_read ws))).legs
+  pub entered_legs : Updates nat_cmp b.legs after l.number.value (Some l) → standing_legs after ≡ (with_leg (surveyed b) (leg_read ws).number (Some (leg_read ws))).legs
   entered_legs sets =
-      read_sets leg_record 128 b.legs after l.number.value (Some l) sets b.legs_numbered ∙ ap (λ (x : LegRecord). update eqb (standing_legs b.legs) x.number (Some x)) is
+      read_sets leg_record b.legs after l.number.value (Some l) sets ∙ ap (λ (x : LegRecord). update eqb (standing_legs b.legs) x.number (Some x)) is
 
-  pub entered_chained : (r : Result (Option Leg) (AllocFailed (ℕ × Leg))) → Inserts ByNumber b.legs after l.number.value l r → first (enter_refusals q s (surveyed b) ws) ≡ None → T (every (chains_over after) b.circuits)
-  entered_chained (Ok old) h e = chained after b.circuits (with_leg (surveyed b) (leg_read ws).number (Some (leg_read ws))) b.circuits_numbered (enter_sound q s (surveyed b) (sound b) ws e) (entered_legs h.3) refl
-  entered_chained (Err y) h e = chained after b.circuits (surveyed b) b.circuits_numbered (sound b) (read_unchanged leg_record b.legs after h.1) refl
+  pub entered_chained : (r : Result (Option Leg) (AllocFailed (ℕ × Leg))) → OnOk r (Updates nat_cmp b.legs after l.number.value (Some l)) → OnErr r (IsUnchanged b.legs after) → first (enter_refusals q s (surveyed b) ws) ≡ None → T (every (chains_over after) b.circuits)
+  entered_chained (Ok old) sets same e = chained after b.circuits (with_leg (surveyed b) (leg_read ws).number (Some (leg_read ws))) b.circuits_numbered (enter_sound q s (surveyed b) (sound b) ws e) (entered_legs sets) refl
+  entered_chained (Err y) sets same e = chained after b.circuits (surveyed b) b.circuits_numbered (sound b) (read_unchanged leg_record b.legs after same) refl

@@ -1,9 +1,10 @@
 -- What joining a circuit answers, and that the book stays sound. Assumes nothing.
-use Rattle.std.proofs.Common.{◌≡◌, ℕ, ◌+◌, ◌-◌, ◌<◌, ◌≤◌, Bool, true, false, cond, T, eqb, List, [], ◌∷◌, ◌++◌, map, length, get_or, take, drop, is_some, Some, None, Ok, Err, Option, Result, sym, refl, ap, ◌∙◌, arith}
+use Rattle.std.proofs.Common.{◌≡◌, ℕ, ◌+◌, ◌-◌, ◌<◌, ◌≤◌, Bool, true, false, cond, T, eqb, List, [], ◌∷◌, ◌++◌, map, length, get_or, take, drop, is_some, Some, None, Ok, Err, Option, Result, OnOk, OnErr, sym, refl, ap, ◌∙◌, arith}
 use Rattle.std.specs.declared.alloc.AllocFailed.{AllocFailed as NoPlace}
 use Rattle.std.specs.BTreeMap.{BTreeMap}
-use Rattle.std.specs.BTreeMap.{Inserts, Updates}
+use Rattle.std.specs.BTreeMap.{IsUnchanged, Updates}
 use Rattle.std.specs.Map.{update}
+use Rattle.std.specs.Ordering.{nat_cmp}
 use Rattle.records.specs.declared.circuit.Circuit.{Circuit}
 use Rattle.records.specs.declared.refusal.Fault.{Fault}
 use Rattle.records.specs.declared.refusal.Fault.TheVariants.{Refused, Memory}
@@ -29,7 +30,6 @@ use Rattle.survey.specs.Numbered.{every, Numbered}
 use Rattle.survey.specs.Standing.{standing_circuits, chains_over}
 use Rattle.survey.proofs.Outcomes.{first_after, first_at, after_all, within, refused_where, not_refused}
 use Rattle.survey.proofs.Soundness.{sound, chained, read_sets, read_unchanged}
-use Rattle.survey.proofs.Tables.{ByNumber}
 
 -- words that are not refused are laid out and in range
 module _ (ws : List ℕ) (read : first (circuit_refusals ws) ≡ None) where
@@ -109,11 +109,11 @@ words_pass q s p ws e = (first_append (circuit_refusals ws) (taken q s p ws ∷ 
 
 module _ {Q S Element : Type 0} (q : Terms Element) (s : Rules) (b : Book Q S) (ws : List ℕ) (c : Circuit) (after : BTreeMap ℕ Circuit) (is : circuit_record c ≡ circuit_read ws) where
   -- the circuits that stand after an `insert`
-  pub joined_circuits : Updates ByNumber b.circuits after c.number.value (Some c) → standing_circuits after ≡ (with_circuit (surveyed b) (circuit_read ws).number (Some (circuit_read ws))).circuits
+  pub joined_circuits : Updates nat_cmp b.circuits after c.number.value (Some c) → standing_circuits after ≡ (with_circuit (surveyed b) (circuit_read ws).number (Some (circuit_read ws))).circuits
   joined_circuits sets =
-      read_sets circuit_record 32 b.circuits after c.number.value (Some c) sets b.circuits_numbered ∙ ap (λ (x : CircuitRecord). update eqb (standing_circuits b.circuits) x.number (Some x)) is
+      read_sets circuit_record b.circuits after c.number.value (Some c) sets ∙ ap (λ (x : CircuitRecord). update eqb (standing_circuits b.circuits) x.number (Some x)) is
 
-  pub joined_chained : (r : Result (Option Circuit) (NoPlace (ℕ × Circuit))) → Inserts ByNumber b.circuits after c.number.value c r → Numbered 32 after → first (join_refusals q s (surveyed b) ws) ≡ None → T (every (chains_over b.legs) after)
-  joined_chained (Ok old) h numbered e =
-      chained b.legs after (with_circuit (surveyed b) (circuit_read ws).number (Some (circuit_read ws))) numbered (join_sound q s (surveyed b) (sound b) ws e) refl (joined_circuits h.3)
-  joined_chained (Err y) h numbered e = chained b.legs after (surveyed b) numbered (sound b) refl (read_unchanged circuit_record b.circuits after h.1)
+  pub joined_chained : (r : Result (Option Circuit) (NoPlace (ℕ × Circuit))) → OnOk r (Updates nat_cmp b.circuits after c.number.value (Some c)) → OnErr r (IsUnchanged b.circuits after) → Numbered 32 after → first (join_refusals q s (surveyed b) ws) ≡ None → T (every (chains_over b.legs) after)
+  joined_chained (Ok old) sets same numbered e =
+      chained b.legs after (with_circuit (surveyed b) (circuit_read ws).number (Some (circuit_read ws))) numbered (join_sound q s (surveyed b) (sound b) ws e) refl (joined_circuits sets)
+  joined_chained (Err y) sets same numbered e = chained b.legs after (surveyed b) numbered (sound b) refl (read_unchanged circuit_record b.circuits after same)

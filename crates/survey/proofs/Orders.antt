@@ -3,28 +3,23 @@ use Rattle.std.proofs.Common.{◌≡◌, ℕ, zero, suc, ◌+◌, ◌<◌, ◌�
 use Rattle.std.specs.BTreeMap.{BTreeMap}
 use Rattle.std.specs.BTreeMap.{keys, values}
 use Rattle.std.specs.List as Finite
-use Rattle.std.specs.Map.{lookup}
-use Rattle.std.specs.List.{zip, range_with_len, AllByRecursion as All, list_all}
-use Rattle.std.specs.Cmp.{nat_cmp_total, unsigned_tied, means, below_irrefl, below_chain, ranks}
-use Rattle.std.specs.Ordering.{eq_by_cmp, nat_cmp}
+use Rattle.std.specs.Map.{keys_of, values_of}
+use Rattle.std.specs.List.{range_with_len, AllByRecursion as All, list_all}
+use Rattle.std.specs.Cmp.{means, below_irrefl, below_chain, ranks}
+use Rattle.std.specs.Ordering.{nat_cmp}
 use Rattle.std.specs.List.Sorted.{IsStrictlySortedBy}
 use Rattle.std.specs.Option.{option_to_list}
-use Rattle.std.proofs.lemmas.List.{nil_from_length}
-use Rattle.std.proofs.lemmas.Map.Pairs.{lookup_head, lookup_tail}
 use Rattle.std.proofs.lemmas.Bool.{cases_order, ne_eqb}
 use Rattle.records.specs.Ranges.{between}
 use Rattle.plainbook.specs.Surveys.{standing, first_number}
 use Rattle.survey.specs.Numbered.{Numbered, table}
-use Rattle.survey.proofs.Tables.{left, right, unranged, ordered}
+use Rattle.survey.proofs.Tables.{left, right, unranged, ordered, seek, seek_head, seek_tail}
 use Rattle.survey.proofs.Picks.{pick}
 
 -- each key is above those before it, the first is at least a, and all are below b
 abbrev Climb : ℕ → ℕ → List ℕ → Type 0
 Climb a b [] = Unit {0}
 Climb a b (k ∷ ks) = (a ≤ k) × (k < b) × Climb (k + 1) b ks
-
-apart : (q k : ℕ) → (q ≡ k → ⊥) → eq_by_cmp nat_cmp q k ≡ false
-apart q k h = unsigned_tied q k ∙ ne_eqb q k h
 
 -- a test of what stands
 abbrev pub on_some : {X : Type 0} → (X → Bool) → Option X → Bool
@@ -52,47 +47,40 @@ module _ {X : Type 0} where
   standing_none f a zero h = refl
   standing_none f a (suc n) h = λ i. option_to_list (h a i) ++ standing_none f (a + 1) n h i
 
-  miss : (ks : List ℕ) (vs : List X) (a b q : ℕ) → Climb a b ks → q < a → lookup (eq_by_cmp nat_cmp) ks vs q ≡ None
-  miss [] vs a b q h l = refl
-  miss (k ∷ ks) [] a b q h l = refl
-  miss (k ∷ ks) (v ∷ vs) a b q h l =
-      lookup_tail (eq_by_cmp nat_cmp) k v ks vs q (apart q k (omega (arith, h.0))) ∙ miss ks vs (k + 1) b q h.2 (omega (arith, h.0))
+  miss : (es : List (ℕ × X)) (a b q : ℕ) → Climb a b (keys_of es) → q < a → seek es q ≡ None
+  miss [] a b q h l = refl
+  miss (e ∷ es) a b q h l = seek_tail q e es (ne_eqb q e.0 (λ s. omega (arith, h.0, s))) ∙ miss es (e.0 + 1) b q h.2 (omega (arith, h.0))
 
-  head_at : (a k : ℕ) (v : X) (ks : List ℕ) (vs : List X) → a ≡ k → lookup (eq_by_cmp nat_cmp) (k ∷ ks) (v ∷ vs) a ≡ Some v
-  head_at a k v ks vs e = ap (lookup (eq_by_cmp nat_cmp) (k ∷ ks) (v ∷ vs)) e ∙ lookup_head nat_cmp_total k v ks vs
+  past_head : (a : ℕ) (e : ℕ × X) (es : List (ℕ × X)) → a ≡ e.0 → (q : ℕ) → a + 1 ≤ q → seek (e ∷ es) q ≡ seek es q
+  past_head a e es same q l = seek_tail q e es (ne_eqb q e.0 (λ s. omega arith))
 
-  past_head : (a k : ℕ) (v : X) (ks : List ℕ) (vs : List X) → a ≡ k → (q : ℕ) → a + 1 ≤ q → lookup (eq_by_cmp nat_cmp) (k ∷ ks) (v ∷ vs) q ≡ lookup (eq_by_cmp nat_cmp) ks vs q
-  past_head a k v ks vs e q l = lookup_tail (eq_by_cmp nat_cmp) k v ks vs q (apart q k (omega arith))
-
-  standing_vals : (n a b : ℕ) (ks : List ℕ) (vs : List X) → b ≡ a + n → Climb a b ks → length vs ≡ length ks → standing (lookup (eq_by_cmp nat_cmp) ks vs) (range_with_len a n) ≡ vs
-  standing_vals n a b [] vs e h even = standing_none _ a n (λ q. refl) ∙ sym (nil_from_length vs even)
-  standing_vals n a b (k ∷ ks) [] e h even = absurd (omega (arith, even))
-  standing_vals zero a b (k ∷ ks) (v ∷ vs) e h even = absurd (omega (arith, h.0, h.1))
-  standing_vals (suc n) a b (k ∷ ks) (v ∷ vs) e h even =
+  standing_vals : (n a b : ℕ) (es : List (ℕ × X)) → b ≡ a + n → Climb a b (keys_of es) → standing (seek es) (range_with_len a n) ≡ values_of es
+  standing_vals n a b [] e h = standing_none _ a n (λ q. refl)
+  standing_vals zero a b (p ∷ es) e h = absurd (omega (arith, h.0, h.1))
+  standing_vals (suc n) a b (p ∷ es) e h =
       ⊎_elim
-      (λ (eq : a ≡ k).
-      ap₂ (λ o xs. option_to_list o ++ xs) (head_at a k v ks vs eq)
-      (standing_same _ _ (a + 1) n (past_head a k v ks vs eq) ∙ standing_vals n (a + 1) b ks vs (omega arith) (subst (λ c. Climb (c + 1) b ks) (sym eq) h.2) (omega (arith, even))))
+      (λ (eq : a ≡ p.0).
+      ap₂ (λ o xs. option_to_list o ++ xs) (seek_head a p es eq)
+      (standing_same _ _ (a + 1) n (past_head a p es eq) ∙ standing_vals n (a + 1) b es (omega arith) (subst (λ c. Climb (c + 1) b (keys_of es)) (sym eq) h.2)))
       (⊎_elim
-      (λ (l : a < k). ap₂ (λ o xs. option_to_list o ++ xs) (miss (k ∷ ks) (v ∷ vs) k b a (omega arith, h.1, h.2) l) (standing_vals n (a + 1) b (k ∷ ks) (v ∷ vs) (omega arith) (omega arith, h.1, h.2) even))
-      (λ (l : k < a). absurd (omega (arith, h.0))))
-      (cases_order a k)
+      (λ (l : a < p.0). ap₂ (λ o xs. option_to_list o ++ xs) (miss (p ∷ es) p.0 b a (omega arith, h.1, h.2) l) (standing_vals n (a + 1) b (p ∷ es) (omega arith) (omega arith, h.1, h.2)))
+      (λ (l : p.0 < a). absurd (omega (arith, h.0))))
+      (cases_order a p.0)
 
-  first_vals : (t : ℕ → X → Bool) (n a b : ℕ) (ks : List ℕ) (vs : List X) → b ≡ a + n → Climb a b ks → length vs ≡ length ks →
-      first_number (λ q. on_some (t q) (lookup (eq_by_cmp nat_cmp) ks vs q)) (range_with_len a n) ≡ pick t (zip ks vs)
-  first_vals t n a b [] vs e h even = first_none _ a n (λ q. refl)
-  first_vals t n a b (k ∷ ks) [] e h even = absurd (omega (arith, even))
-  first_vals t zero a b (k ∷ ks) (v ∷ vs) e h even = absurd (omega (arith, h.0, h.1))
-  first_vals t (suc n) a b (k ∷ ks) (v ∷ vs) e h even =
+  first_vals : (t : ℕ → X → Bool) (n a b : ℕ) (es : List (ℕ × X)) → b ≡ a + n → Climb a b (keys_of es) →
+      first_number (λ q. on_some (t q) (seek es q)) (range_with_len a n) ≡ pick t es
+  first_vals t n a b [] e h = first_none _ a n (λ q. refl)
+  first_vals t zero a b (p ∷ es) e h = absurd (omega (arith, h.0, h.1))
+  first_vals t (suc n) a b (p ∷ es) e h =
       ⊎_elim
-      (λ (eq : a ≡ k).
-      ap₂ (λ test rest. cond test (Some a) rest) (ap (on_some (t a)) (head_at a k v ks vs eq))
-      (first_same _ _ (a + 1) n (λ q l. ap (on_some (t q)) (past_head a k v ks vs eq q l)) ∙ first_vals t n (a + 1) b ks vs (omega arith) (subst (λ c. Climb (c + 1) b ks) (sym eq) h.2) (omega (arith, even)))
-      ∙ ap (λ j. cond (t j v) (Some j) (pick t (zip ks vs))) eq)
+      (λ (eq : a ≡ p.0).
+      ap₂ (λ test rest. cond test (Some a) rest) (ap (on_some (t a)) (seek_head a p es eq))
+      (first_same _ _ (a + 1) n (λ q l. ap (on_some (t q)) (past_head a p es eq q l)) ∙ first_vals t n (a + 1) b es (omega arith) (subst (λ c. Climb (c + 1) b (keys_of es)) (sym eq) h.2))
+      ∙ ap (λ j. cond (t j p.1) (Some j) (pick t es)) eq)
       (⊎_elim
-      (λ (l : a < k). ap₂ (λ o rest. cond (on_some (t a) o) (Some a) rest) (miss (k ∷ ks) (v ∷ vs) k b a (omega arith, h.1, h.2) l) (first_vals t n (a + 1) b (k ∷ ks) (v ∷ vs) (omega arith) (omega arith, h.1, h.2) even))
-      (λ (l : k < a). absurd (omega (arith, h.0))))
-      (cases_order a k)
+      (λ (l : a < p.0). ap₂ (λ o rest. cond (on_some (t a) o) (Some a) rest) (miss (p ∷ es) p.0 b a (omega arith, h.1, h.2) l) (first_vals t n (a + 1) b (p ∷ es) (omega arith) (omega arith, h.1, h.2)))
+      (λ (l : p.0 < a). absurd (omega (arith, h.0))))
+      (cases_order a p.0)
 
 above : (k : ℕ) (ks : List ℕ) → Finite.AllByRecursion (λ y. nat_cmp k y ≡ Less) ks → All (λ y. k + 1 ≤ y) ks
 above k [] h = tt
@@ -110,15 +98,15 @@ firsts high (k ∷ ks) t = ((unranged high k (left (between 1 high k) _ t)).0, f
 
 module _ {X : Type 0} (high : ℕ) (m : BTreeMap ℕ X) (o : Numbered high m) where
   rising : Climb 1 (1 + high) (keys m)
-  rising = climb high 1 (keys m) (ordered high m o).1 o.1 (firsts high (keys m) o.1)
+  rising = climb high 1 (keys m) (ordered high m o) o.1 (firsts high (keys m) o.1)
 
   -- the values are what stands, in the order of the numbers
   pub vals_stand : standing (table m) (range_with_len 1 high) ≡ values m
-  vals_stand = standing_vals high 1 (1 + high) (keys m) (values m) refl rising (ordered high m o).0
+  vals_stand = standing_vals high 1 (1 + high) m.entries refl rising
 
   -- the first number that passes is the first key that does
   pub first_key : (t : ℕ → X → Bool) → first_number (λ q. on_some (t q) (table m q)) (range_with_len 1 high) ≡ pick t (m.entries)
-  first_key t = first_vals t high 1 (1 + high) (keys m) (values m) refl rising (ordered high m o).0
+  first_key t = first_vals t high 1 (1 + high) m.entries refl rising
 
   pub few_keys : length (keys m) ≤ high
   few_keys = omega (arith, few 1 (1 + high) (keys m) (omega arith) rising)

@@ -1,6 +1,6 @@
 -- The first key of a map that passes a test. Assumes nothing.
-use Rattle.std.proofs.Common.{◌≡◌, ℕ, Bool, true, false, cond, List, [], ◌∷◌, length, Some, None, Option, sym, refl, ap, ◌∙◌, arith}
-use Rattle.std.specs.List.{zip}
+use Rattle.std.proofs.Common.{◌≡◌, ℕ, Bool, true, false, cond, List, [], ◌∷◌, Some, None, Option, sym, refl, ap, ◌∙◌}
+use Rattle.std.specs.Map.{keys_of}
 
 module _ {X : Type 0} (t : ℕ → X → Bool) where
   abbrev pub pick : List (ℕ × X) → Option ℕ
@@ -19,10 +19,9 @@ abbrev pub pick_key : (ℕ → Bool) → List ℕ → Option ℕ
 pick_key t [] = None
 pick_key t (k ∷ ks) = cond (t k) (Some k) (pick_key t ks)
 
-pub pick_keys : {X : Type 0} (t : ℕ → Bool) (ks : List ℕ) (vs : List X) → length vs ≡ length ks → pick_key t ks ≡ pick (λ k _. t k) (zip ks vs)
-pick_keys t [] vs even = refl
-pick_keys t (k ∷ ks) [] even = absurd (omega (arith, even))
-pick_keys t (k ∷ ks) (v ∷ vs) even = ap (cond (t k) (Some k)) (pick_keys t ks vs (omega (arith, even)))
+pub pick_keys : {X : Type 0} (t : ℕ → Bool) (es : List (ℕ × X)) → pick_key t (keys_of es) ≡ pick (λ k _. t k) es
+pick_keys t [] = refl
+pick_keys t (e ∷ es) = ap (cond (t e.0) (Some e.0)) (pick_keys t es)
 
 pub key_skip : (t : ℕ → Bool) {ks js : List ℕ} {k : ℕ} {r : Option ℕ} → ks ≡ k ∷ js → t k ≡ false → pick_key t ks ≡ r → pick_key t js ≡ r
 key_skip t {js = js} {k = k} e fails h = sym (ap (pick_key t) e ∙ ap (λ b. cond b (Some k) (pick_key t js)) fails) ∙ h

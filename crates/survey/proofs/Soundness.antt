@@ -3,6 +3,7 @@ use Rattle.std.proofs.Common.{◌≡◌, ℕ, Bool, true, false, not, T, eqb, Li
 use Rattle.std.specs.BTreeMap.{BTreeMap}
 use Rattle.std.specs.BTreeMap.{Updates, IsUnchanged}
 use Rattle.std.specs.Map.{update}
+use Rattle.std.specs.Ordering.{nat_cmp}
 use Rattle.std.specs.Option.{option_map}
 use Rattle.std.proofs.lemmas.Bool.{not-true, not_from_false}
 use Rattle.records.specs.declared.circuit.Circuit.{Circuit}
@@ -19,7 +20,7 @@ use Rattle.survey.specs.declared.book.Book.{Book}
 use Rattle.survey.specs.Books.{surveyed}
 use Rattle.survey.specs.Numbered.{Numbered, table, every}
 use Rattle.survey.specs.Standing.{standing_legs, standing_circuits, chains_over}
-use Rattle.survey.proofs.Tables.{ByNumber, ordered, in_range, every_at, every_from, mapped_isSome, mapped_update, none_from_isSome, passes, passed, table_sets, table_unchanged}
+use Rattle.survey.proofs.Tables.{ordered, in_range, every_at, every_from, mapped_isSome, mapped_update, none_from_isSome, passes, passed, table_sets, table_unchanged}
 
 pub mapped_some : {X Y : Type 0} (f : X → Y) (o : Option X) (y : Y) → option_map f o ≡ Some y → (x : X) × (o ≡ Some x) × (f x ≡ y)
 mapped_some f None y e = let z : ◌≡◌ {A = ℕ} 0 1 = cc in absurd (omega arith)
@@ -51,9 +52,9 @@ module _ where
 
 -- a map after a change, read by f
 module _ {X Y : Type 0} (f : X → Y) where
-  pub read_sets : (high : ℕ) (m n : BTreeMap ℕ X) (k : ℕ) (w : Option X) → Updates ByNumber m n k w → Numbered high m →
+  pub read_sets : (m n : BTreeMap ℕ X) (k : ℕ) (w : Option X) → Updates nat_cmp m n k w →
       ◌≡◌ {A = ℕ → Option Y} (λ q. option_map f (table n q)) (update eqb (λ q. option_map f (table m q)) k (option_map f w))
-  read_sets high m n k w s o = λ i q. (ap (λ (g : ℕ → Option X). option_map f (g q)) (table_sets high m n k w s o) ∙ mapped_update f (table m) k w q) i
+  read_sets m n k w s = λ i q. (ap (λ (g : ℕ → Option X). option_map f (g q)) (table_sets m n k w s) ∙ mapped_update f (table m) k w q) i
 
   pub read_unchanged : (m n : BTreeMap ℕ X) → IsUnchanged m n → ◌≡◌ {A = ℕ → Option Y} (λ q. option_map f (table n q)) (λ q. option_map f (table m q))
   read_unchanged m n u = λ i q. option_map f (table_unchanged m n u i q)

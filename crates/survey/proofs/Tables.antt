@@ -1,24 +1,22 @@
 -- Maps at numbers, as functions. Assumes nothing.
-use Rattle.std.proofs.Common.{◌≡◌, ℕ, zero, suc, ◌+◌, ◌<◌, ◌≤◌, Bool, true, false, cond, ◌&&◌, T, eqb, leb, List, [], ◌∷◌, length, get_or, is_some, Some, None, Ok, Err, Option, Result, Ordering, sym, refl, ap, ◌∙◌, subst, arith}
+use Rattle.std.proofs.Common.{◌≡◌, ℕ, ◌<◌, ◌≤◌, Bool, true, false, cond, ◌&&◌, T, eqb, leb, List, [], ◌∷◌, is_some, Some, None, Ok, Err, Option, Result, OnOk, OnErr, sym, refl, ap, ◌∙◌, subst}
 use mathlib.Core.Path.{fun_ext}
 use Rattle.std.specs.declared.alloc.AllocFailed.{AllocFailed}
 use Rattle.std.specs.BTreeMap.{BTreeMap}
-use Rattle.std.specs.BTreeMap.{keys, values, IsOrdered, Updates, IsUnchanged, Inserts}
-use Rattle.std.specs.Map.{lookup, update}
-use Rattle.std.specs.List.{zip, list_all}
+use Rattle.std.specs.BTreeMap.{keys, is_at, IsOrdered, Updates, IsUnchanged}
+use Rattle.std.specs.Map.{lookup, update, keys_of}
+use Rattle.std.specs.List.{list_all}
+use Rattle.std.specs.List.Sorted.{IsStrictlySortedBy}
 use Rattle.std.specs.Cmp.{nat_cmp_total, unsigned_tied}
-use Rattle.std.specs.Ordering.{eq_by_cmp, MatchOrdering, nat_cmp}
+use Rattle.std.specs.Ordering.{nat_cmp}
 use Rattle.std.specs.Option.{option_map}
-use Rattle.std.specs.Map.Invariant.{is-strictly-sorted-by}
 use Rattle.records.specs.Ranges.{between}
 use Rattle.survey.specs.Numbered.{Numbered, table, every}
-use Rattle.std.proofs.lemmas.Map.Invariant.{btree-map-from-valid, valid-from-btree-map}
-use Rattle.std.proofs.lemmas.Map.Pairs.{place_from_lookup, btree_map_get_place}
-use Rattle.std.proofs.lemmas.Slice.Zip.{get_or-zip, length-zip}
-use Rattle.std.proofs.lemmas.Bool.{eqb-true, false≢true, true≢false, le-leb, leb-true}
-
-abbrev pub ByNumber : ℕ → ℕ → Ordering → Type 0
-ByNumber x y r = MatchOrdering r (x < y) (x ≡ y) (y < x)
+use Rattle.std.proofs.lemmas.Cmp.{eq_by_cmp_equiv}
+use Rattle.std.proofs.lemmas.Map.{lookup-none}
+use Rattle.std.proofs.lemmas.Map.Entries.{lookup_head, lookup_tail, none_past_head}
+use Rattle.std.proofs.lemmas.Map.Keys.{sorted_tail, IsDistinct-from_sorted}
+use Rattle.std.proofs.lemmas.Bool.{eqb-true, eq-eqb, false≢true, true≢false, le-leb, leb-true}
 
 -- ---- tests that pass
 pub passes : (b : Bool) → b ≡ true → T b
@@ -48,16 +46,6 @@ ranged high n l h = both (leb 1 n) (leb n high) (passes _ (le-leb 1 n l)) (passe
 pub unranged : (high n : ℕ) → T (between 1 high n) → (1 ≤ n) × (n ≤ high)
 unranged high n h = (leb-true 1 n (passed _ (left (leb 1 n) (leb n high) h)), leb-true n high (passed _ (right (leb 1 n) (leb n high) h)))
 
-module _ {A : Type 0} (p : A → Bool) where
-  pass_getD : (xs : List A) (i : ℕ) (d : A) → T (list_all p xs) → i < length xs → T (p (get_or xs i d))
-  pass_getD [] i d h l = absurd (omega arith)
-  pass_getD (x ∷ xs) zero d h l = left (p x) (list_all p xs) h
-  pass_getD (x ∷ xs) (suc i) d h l = pass_getD xs i d (right (p x) (list_all p xs) h) (omega arith)
-
-  pass_each : (xs : List A) → ((i : ℕ) (d : A) → i < length xs → T (p (get_or xs i d))) → T (list_all p xs)
-  pass_each [] h = tt
-  pass_each (x ∷ xs) h = both (p x) (list_all p xs) (h 0 x (omega arith)) (pass_each xs (λ i d l. h (suc i) d (omega arith)))
-
 pub none_from_isSome : {X : Type 0} (o : Option X) → is_some o ≡ false → o ≡ None
 none_from_isSome None h = refl
 none_from_isSome (Some x) h = absurd (true≢false h)
@@ -68,104 +56,126 @@ mapped_isSome f (Some x) = refl
 
 -- a change, read by f
 pub mapped_update : {X Y : Type 0} (f : X → Y) (g : ℕ → Option X) (n : ℕ) (w : Option X) (q : ℕ) → option_map f (update eqb g n w q) ≡ update eqb (λ k. option_map f (g k)) n (option_map f w) q
-mapped_update f g n w q = go (eqb q n)
+mapped_update f g n w q = go (eqb n q)
   where
     go : (b : Bool) → option_map f (cond b w (g q)) ≡ cond b (option_map f w) (option_map f (g q))
     go true = refl
     go false = refl
 
+-- what a map finds at a number, in a list of its entries
+abbrev pub seek : {X : Type 0} → List (ℕ × X) → ℕ → Option X
+seek es n = lookup (is_at (nat_cmp n)) es
+
+module _ {X : Type 0} where
+  same_found : {x y : X} → Some x ≡ Some y → x ≡ y
+  same_found e = cc
+
+  pub seek_head : (n : ℕ) (e : ℕ × X) (es : List (ℕ × X)) → n ≡ e.0 → seek (e ∷ es) n ≡ Some e.1
+  seek_head n e es same = lookup_head (is_at (nat_cmp n)) e es (unsigned_tied n e.0 ∙ eq-eqb n e.0 same)
+
+  pub seek_tail : (n : ℕ) (e : ℕ × X) (es : List (ℕ × X)) → eqb n e.0 ≡ false → seek (e ∷ es) n ≡ seek es n
+  seek_tail n e es apart = lookup_tail (is_at (nat_cmp n)) e es (unsigned_tied n e.0 ∙ apart)
+
+  -- what is found among the others is found with the first before them
+  seek_past : (e : ℕ × X) (es : List (ℕ × X)) → IsStrictlySortedBy nat_cmp (keys_of (e ∷ es)) → (n : ℕ) (x : X) → seek es n ≡ Some x → seek (e ∷ es) n ≡ Some x
+  seek_past e es o n x is = go (eqb n e.0) refl
+    where
+      go : (b : Bool) → eqb n e.0 ≡ b → seek (e ∷ es) n ≡ Some x
+      go true same =
+          let none = lookup-none (is_at (nat_cmp n)) es (none_past_head (eq_by_cmp_equiv nat_cmp_total) n e es (IsDistinct-from_sorted nat_cmp (keys_of (e ∷ es)) o) (unsigned_tied n e.0 ∙ same)) in
+          absurd (false≢true (ap is_some (sym none ∙ is)))
+      go false apart = seek_tail n e es apart ∙ is
+
+  module _ (test : ℕ → X → Bool) where
+    found_first : (e : ℕ × X) (es : List (ℕ × X)) (n : ℕ) (x : X) → T (test e.0 e.1) → (seek es n ≡ Some x → T (test n x)) → seek (e ∷ es) n ≡ Some x → T (test n x)
+    found_first e es n x here rest is = go (eqb n e.0) refl
+      where
+        go : (b : Bool) → eqb n e.0 ≡ b → T (test n x)
+        go true same =
+            let at : n ≡ e.0 = eqb-true n e.0 same in
+            subst (λ v. T (test n v)) (same_found (sym (seek_head n e es at) ∙ is)) (subst (λ k. T (test k e.1)) (sym at) here)
+        go false apart = rest (sym (seek_tail n e es apart) ∙ is)
+
+    -- what every entry passes, what is found passes
+    found_passes : (es : List (ℕ × X)) → T (list_all (λ p. test p.0 p.1) es) → (n : ℕ) (x : X) → seek es n ≡ Some x → T (test n x)
+    found_passes [] h n x is = absurd (false≢true (ap is_some is))
+    found_passes (e ∷ es) h n x is =
+        found_first e es n x (left (test e.0 e.1) _ h) (found_passes es (right (test e.0 e.1) _ h) n x) is
+
+    -- what all that is found passes, every entry passes
+    entries_pass : (es : List (ℕ × X)) → IsStrictlySortedBy nat_cmp (keys_of es) → ((n : ℕ) (x : X) → seek es n ≡ Some x → T (test n x)) → T (list_all (λ p. test p.0 p.1) es)
+    entries_pass [] o h = tt
+    entries_pass (e ∷ es) o h =
+        both (test e.0 e.1) _ (h e.0 e.1 (seek_head e.0 e es refl)) (entries_pass es (sorted_tail nat_cmp e.0 (keys_of es) o) (λ n x is. h n x (seek_past e es o n x is)))
+
+  -- a test of the keys alone
+  keys_tested : (p : ℕ → Bool) (es : List (ℕ × X)) → list_all p (keys_of es) ≡ list_all (λ e. p e.0) es
+  keys_tested p [] = refl
+  keys_tested p (e ∷ es) = ap (λ b. p e.0 && b) (keys_tested p es)
+
 module _ {X : Type 0} where
   pub ordered : (high : ℕ) (m : BTreeMap ℕ X) → Numbered high m → IsOrdered nat_cmp m
-  ordered high m o = btree-map-from-valid nat_cmp m o.0
+  ordered high m o = o.0
 
   -- ---- what stands passes a test
   pub every_at : (test : ℕ → X → Bool) (m : BTreeMap ℕ X) → T (every test m) → (n : ℕ) (x : X) → table m n ≡ Some x → T (test n x)
-  every_at test m h n x is =
-      let place = place_from_lookup (eq_by_cmp nat_cmp) (keys m) (values m) n x is in
-      let same : n ≡ get_or (keys m) place.0 n = eqb-true _ _ (sym (unsigned_tied n (get_or (keys m) place.0 n)) ∙ place.3) in
-      let here = pass_getD (λ p. test p.0 p.1) (m.entries) place.0 (n, x) h (omega (arith, length-zip (keys m) (values m), place.1, place.2)) in
-      subst (λ k. T (test k x)) (sym same) (subst (λ v. T (test (get_or (keys m) place.0 n) v)) place.4 (subst (λ p. T (test p.0 p.1)) (get_or-zip (keys m) (values m) place.0 (n, x) place.1 place.2) here))
+  every_at test m h n x is = found_passes test m.entries h n x is
 
   pub every_from : (test : ℕ → X → Bool) (m : BTreeMap ℕ X) → IsOrdered nat_cmp m → ((n : ℕ) (x : X) → table m n ≡ Some x → T (test n x)) → T (every test m)
-  every_from test m o h =
-      pass_each (λ p. test p.0 p.1) (m.entries)
-      (λ i d l.
-      let first : i < length (keys m) = omega (arith, length-zip (keys m) (values m)) in
-      let second : i < length (values m) = omega (arith, length-zip (keys m) (values m)) in
-      subst (λ p. T (test p.0 p.1)) (sym (get_or-zip (keys m) (values m) i d first second)) (h _ _ (btree_map_get_place nat_cmp_total m i d.0 d.1 o first)))
+  every_from test m o h = entries_pass test m.entries o h
 
   at_passes : (p : ℕ → Bool) (m : BTreeMap ℕ X) → T (list_all p (keys m)) → (q : ℕ) → is_some (table m q) ≡ true → T (p q)
   at_passes p m h q e = go (table m q) refl e
     where
       go : (o : Option X) → table m q ≡ o → is_some o ≡ true → T (p q)
       go None is some = absurd (false≢true some)
-      go (Some v) is some =
-          let place = place_from_lookup (eq_by_cmp nat_cmp) (keys m) (values m) q v is in
-          let same : q ≡ get_or (keys m) place.0 q = eqb-true _ _ (sym (unsigned_tied q (get_or (keys m) place.0 q)) ∙ place.3) in
-          subst (λ k. T (p k)) (sym same) (pass_getD p (keys m) place.0 q h place.1)
+      go (Some v) is some = found_passes (λ n _. p n) m.entries (subst T (keys_tested p m.entries) h) q v is
 
   pub in_range : (high : ℕ) (m : BTreeMap ℕ X) → Numbered high m → (q : ℕ) → is_some (table m q) ≡ true → between 1 high q ≡ true
   in_range high m o q e = passed _ (at_passes (between 1 high) m o.1 q e)
 
   passes_from_at : (p : ℕ → Bool) (m : BTreeMap ℕ X) → IsOrdered nat_cmp m → ((q : ℕ) → is_some (table m q) ≡ true → T (p q)) → T (list_all p (keys m))
-  passes_from_at p m o h = pass_each p (keys m) (λ i d l. h _ (stands i d l))
-    where
-      stands : (i d : ℕ) → i < length (keys m) → is_some (table m (get_or (keys m) i d)) ≡ true
-      stands i d l = go (values m) o.0 refl
-        where
-          go : (vs : List X) → length (values m) ≡ length (keys m) → values m ≡ vs → is_some (table m (get_or (keys m) i d)) ≡ true
-          go [] even is = absurd (omega (arith, ap length is))
-          go (v ∷ vs) even is = ap is_some (btree_map_get_place nat_cmp_total m i d v o l)
+  passes_from_at p m o h = subst T (sym (keys_tested p m.entries)) (entries_pass (λ n _. p n) m.entries o (λ n x is. h n (ap is_some is)))
 
   -- ---- after a change at one key
-  pub table_sets : (high : ℕ) (m n : BTreeMap ℕ X) (k : ℕ) (w : Option X) → Updates ByNumber m n k w → Numbered high m → table n ≡ update eqb (table m) k w
-  table_sets high m n k w s o =
-      fun_ext (λ q. (s nat_cmp_total (ordered high m o)).1 q ∙ ap (λ b. cond b w (table m q)) (unsigned_tied q k))
+  pub table_sets : (m n : BTreeMap ℕ X) (k : ℕ) (w : Option X) → Updates nat_cmp m n k w → table n ≡ update eqb (table m) k w
+  table_sets m n k w s = fun_ext (λ q. s.0 q ∙ ap (λ b. cond b w (table m q)) (unsigned_tied k q))
 
-  pub numbered_sets : (high : ℕ) (m n : BTreeMap ℕ X) (k : ℕ) (w : Option X) → Updates ByNumber m n k w → Numbered high m → (is_some w ≡ true → T (between 1 high k)) → Numbered high n
-  numbered_sets high m n k w s o here =
-      let is = (s nat_cmp_total (ordered high m o)).0 in
-      (valid-from-btree-map nat_cmp n is, passes_from_at (between 1 high) n is (λ q some. go q (eqb q k) refl (sym (ap (λ (f : ℕ → Option X). is_some (f q)) (table_sets high m n k w s o)) ∙ some)))
+  pub numbered_sets : (high : ℕ) (m n : BTreeMap ℕ X) (k : ℕ) (w : Option X) → Updates nat_cmp m n k w → IsOrdered nat_cmp n → Numbered high m → (is_some w ≡ true → T (between 1 high k)) → Numbered high n
+  numbered_sets high m n k w s is o here =
+      (is, passes_from_at (between 1 high) n is (λ q some. go q (eqb k q) refl (sym (ap (λ (f : ℕ → Option X). is_some (f q)) (table_sets m n k w s)) ∙ some)))
     where
-      go : (q : ℕ) (b : Bool) → eqb q k ≡ b → is_some (cond (eqb q k) w (table m q)) ≡ true → T (between 1 high q)
-      go q true e some = subst (λ k. T (between 1 high k)) (sym (eqb-true q k e)) (here (rw e at some))
+      go : (q : ℕ) (b : Bool) → eqb k q ≡ b → is_some (cond (eqb k q) w (table m q)) ≡ true → T (between 1 high q)
+      go q true e some = subst (λ k. T (between 1 high k)) (eqb-true k q e) (here (rw e at some))
       go q false e some = at_passes (between 1 high) m o.1 q (rw e at some)
 
-  pub every_sets : (high : ℕ) (test : ℕ → X → Bool) (m n : BTreeMap ℕ X) (k : ℕ) (w : Option X) → Updates ByNumber m n k w → Numbered high m → T (every test m) → ((x : X) → w ≡ Some x → T (test k x)) → T (every test n)
-  every_sets high test m n k w s o h here =
-      every_from test n (s nat_cmp_total (ordered high m o)).0 (λ q x is. go q x (eqb q k) refl (sym (ap (λ (f : ℕ → Option X). f q) (table_sets high m n k w s o)) ∙ is))
+  pub every_sets : (test : ℕ → X → Bool) (m n : BTreeMap ℕ X) (k : ℕ) (w : Option X) → Updates nat_cmp m n k w → IsOrdered nat_cmp n → T (every test m) → ((x : X) → w ≡ Some x → T (test k x)) → T (every test n)
+  every_sets test m n k w s o h here =
+      every_from test n o (λ q x is. go q x (eqb k q) refl (sym (ap (λ (f : ℕ → Option X). f q) (table_sets m n k w s)) ∙ is))
     where
-      go : (q : ℕ) (x : X) (b : Bool) → eqb q k ≡ b → cond (eqb q k) w (table m q) ≡ Some x → T (test q x)
-      go q x true e is = subst (λ k. T (test k x)) (sym (eqb-true q k e)) (here x (rw e at is))
+      go : (q : ℕ) (x : X) (b : Bool) → eqb k q ≡ b → cond (eqb k q) w (table m q) ≡ Some x → T (test q x)
+      go q x true e is = subst (λ k. T (test k x)) (eqb-true k q e) (here x (rw e at is))
       go q x false e is = every_at test m h q x (rw e at is)
 
   -- after a key is taken out
-  pub numbered_removed : (high : ℕ) (m n : BTreeMap ℕ X) (k : ℕ) → Updates ByNumber m n k None → Numbered high m → Numbered high n
-  numbered_removed high m n k s o = numbered_sets high m n k None s o (λ e. absurd (false≢true e))
+  pub numbered_removed : (high : ℕ) (m n : BTreeMap ℕ X) (k : ℕ) → Updates nat_cmp m n k None → IsOrdered nat_cmp n → Numbered high m → Numbered high n
+  numbered_removed high m n k s is o = numbered_sets high m n k None s is o (λ e. absurd (false≢true e))
 
-  pub every_removed : (high : ℕ) (test : ℕ → X → Bool) (m n : BTreeMap ℕ X) (k : ℕ) → Updates ByNumber m n k None → Numbered high m → T (every test m) → T (every test n)
-  every_removed high test m n k s o h = every_sets high test m n k None s o h (λ x e. absurd (false≢true (ap is_some e)))
+  pub every_removed : (test : ℕ → X → Bool) (m n : BTreeMap ℕ X) (k : ℕ) → Updates nat_cmp m n k None → IsOrdered nat_cmp n → T (every test m) → T (every test n)
+  every_removed test m n k s o h = every_sets test m n k None s o h (λ x e. absurd (false≢true (ap is_some e)))
 
   pub table_unchanged : (m n : BTreeMap ℕ X) → IsUnchanged m n → table n ≡ table m
-  table_unchanged m n u = λ i q. lookup (eq_by_cmp nat_cmp) (u.0 i) (u.1 i) q
-
-  pub numbered_unchanged : (high : ℕ) (m n : BTreeMap ℕ X) → IsUnchanged m n → Numbered high m → Numbered high n
-  numbered_unchanged high m n u o = (
-    (ap length u.1 ∙ o.0.0 ∙ sym (ap length u.0), subst (λ ks. T (is-strictly-sorted-by (λ x y. nat_cmp x y) ks)) (sym u.0) o.0.1),
-    subst (λ ks. T (list_all (between 1 high) ks)) (sym u.0) o.1,
-  )
+  table_unchanged m n u = ap (λ es q. seek es q) u
 
   pub every_unchanged : (test : ℕ → X → Bool) (m n : BTreeMap ℕ X) → IsUnchanged m n → T (every test m) → T (every test n)
-  every_unchanged test m n u h = subst T (λ i. list_all (λ p. test p.0 p.1) (zip (sym u.0 i) (sym u.1 i))) h
+  every_unchanged test m n u h = subst (λ es. T (list_all (λ p. test p.0 p.1) es)) (sym u) h
 
   -- ---- after an `insert`, whether or not there was memory
-  pub numbered_inserted : (high : ℕ) (m n : BTreeMap ℕ X) (k : ℕ) (v : X) (r : Result (Option X) (AllocFailed (ℕ × X))) → Inserts ByNumber m n k v r → Numbered high m → T (between 1 high k) → Numbered high n
-  numbered_inserted high m n k v (Ok old) h o here = numbered_sets high m n k (Some v) h.3 o (λ _. here)
-  numbered_inserted high m n k v (Err y) h o here = numbered_unchanged high m n h.1 o
+  module _ (m n : BTreeMap ℕ X) (k : ℕ) (v : X) (is : IsOrdered nat_cmp n) where
+    pub numbered_inserted : (high : ℕ) (r : Result (Option X) (AllocFailed (ℕ × X))) → OnOk r (Updates nat_cmp m n k (Some v)) → OnErr r (IsUnchanged m n) → Numbered high m → T (between 1 high k) → Numbered high n
+    numbered_inserted high (Ok old) s u o here = numbered_sets high m n k (Some v) s is o (λ _. here)
+    numbered_inserted high (Err y) s u o here = subst (λ es. IsStrictlySortedBy nat_cmp (keys_of es) × T (list_all (between 1 high) (keys_of es))) (sym u) o
 
-  pub every_inserted : (high : ℕ) (test : ℕ → X → Bool) (m n : BTreeMap ℕ X) (k : ℕ) (v : X) (r : Result (Option X) (AllocFailed (ℕ × X))) → Inserts ByNumber m n k v r → Numbered high m → T (every test m) → T (test k v) → T (every test n)
-  every_inserted high test m n k v (Ok old) h o all here = every_sets high test m n k (Some v) h.3 o all (λ x is. subst (λ y. T (test k y)) (some_same is) here)
-    where
-      some_same : {x y : X} → Some x ≡ Some y → x ≡ y
-      some_same e = cc
-  every_inserted high test m n k v (Err y) h o all here = every_unchanged test m n h.1 all
+    pub every_inserted : (test : ℕ → X → Bool) (r : Result (Option X) (AllocFailed (ℕ × X))) → OnOk r (Updates nat_cmp m n k (Some v)) → OnErr r (IsUnchanged m n) → T (every test m) → T (test k v) → T (every test n)
+    every_inserted test (Ok old) s u all here = every_sets test m n k (Some v) s is all (λ x e. subst (λ y. T (test k y)) (same_found e) here)
+    every_inserted test (Err y) s u all here = every_unchanged test m n u all

@@ -1,7 +1,8 @@
 -- Which circuits of a book use a leg. Assumes nothing.
 use Rattle.std.proofs.Common.{◌≡◌, ℕ, ◌+◌, ◌<◌, ◌≤◌, Bool, true, false, cond, not, ◌&&◌, ◌||◌, eqb, List, [], ◌∷◌, map, length, get_or, drop, is_some, Some, None, vec_items, Option, sym, refl, ap, ◌∙◌, arith}
 use Rattle.std.specs.BTreeMap.{keys, values}
-use Rattle.std.specs.List.{zip, range_with_len}
+use Rattle.std.specs.List.{range_with_len}
+use Rattle.std.specs.Map.{values_of}
 use Rattle.std.specs.Option.{option_map}
 use Rattle.std.proofs.lemmas.List.{at_drop_more, at_drop_all}
 use Rattle.std.proofs.lemmas.Bool.{eq-eqb, ne_eqb}
@@ -16,7 +17,6 @@ use Rattle.survey.specs.Books.{surveyed}
 use Rattle.survey.specs.Numbered.{table}
 use Rattle.survey.proofs.Orders.{on_some, first_key, first_equal}
 use Rattle.survey.proofs.Picks.{pick, pick_key, pick_keys}
-use Rattle.survey.proofs.Tables.{ordered}
 
 -- whether the leg is among the uses
 abbrev pub among : ℕ → List LegUse → Bool
@@ -53,13 +53,11 @@ used_skip leg {ds = ds} e misses h = sym (ap (used_in leg) e ∙ ap (λ b. b || 
 pub used_here : (leg : ℕ) {cs ds : List Circuit} {x : Circuit} {r : Bool} → cs ≡ x ∷ ds → among leg (vec_items x.legs) ≡ true → used_in leg cs ≡ r → r ≡ true
 used_here leg {ds = ds} e hits h = sym h ∙ ap (used_in leg) e ∙ ap (λ b. b || used_in leg ds) hits
 
-used_in_pick : (leg : ℕ) (ks : List ℕ) (vs : List Circuit) → length vs ≡ length ks → used_in leg vs ≡ is_some (pick (uses_leg leg) (zip ks vs))
-used_in_pick leg [] [] even = refl
-used_in_pick leg [] (v ∷ vs) even = absurd (omega (arith, even))
-used_in_pick leg (k ∷ ks) [] even = absurd (omega (arith, even))
-used_in_pick leg (k ∷ ks) (v ∷ vs) even = go (among leg (vec_items v.legs)) (used_in_pick leg ks vs (omega (arith, even)))
+used_in_pick : (leg : ℕ) (es : List (ℕ × Circuit)) → used_in leg (values_of es) ≡ is_some (pick (uses_leg leg) es)
+used_in_pick leg [] = refl
+used_in_pick leg (e ∷ es) = go (among leg (vec_items e.1.legs)) (used_in_pick leg es)
   where
-    go : (b : Bool) → used_in leg vs ≡ is_some (pick (uses_leg leg) (zip ks vs)) → (b || used_in leg vs) ≡ is_some (cond b (Some k) (pick (uses_leg leg) (zip ks vs)))
+    go : (b : Bool) → used_in leg (values_of es) ≡ is_some (pick (uses_leg leg) es) → (b || used_in leg (values_of es)) ≡ is_some (cond b (Some e.0) (pick (uses_leg leg) es))
     go true rest = refl
     go false rest = rest
 
@@ -74,7 +72,7 @@ module _ {Q S : Type 0} (b : Book Q S) where
       first_equal (uses (surveyed b) leg) (λ n. on_some (uses_leg leg n) (table b.circuits n)) (range_with_len 1 32) (λ n. circuit_tested leg (table b.circuits n)) ∙ first_key 32 b.circuits b.circuits_numbered (uses_leg leg)
 
   used_is : (leg : ℕ) → is_some (user (surveyed b) leg) ≡ used_in leg (values b.circuits)
-  used_is leg = ap is_some (user_is leg) ∙ sym (used_in_pick leg (keys b.circuits) (values b.circuits) (ordered 32 b.circuits b.circuits_numbered).0)
+  used_is leg = ap is_some (user_is leg) ∙ sym (used_in_pick leg b.circuits.entries)
 
   leg_tested : (used : Bool) (o : Option Leg) → (is_some (option_map leg_record o) && not used) ≡ on_some (λ _. not used) o
   leg_tested used None = refl
@@ -86,20 +84,19 @@ module _ {Q S : Type 0} (b : Book Q S) where
       first_equal (loose (surveyed b)) (λ n. on_some (λ _. unused_in (values b.circuits) n) (table b.legs n)) (range_with_len 1 128)
       (λ n. ap (λ used. is_some (option_map leg_record (table b.legs n)) && not used) (used_is n) ∙ leg_tested (used_in n (values b.circuits)) (table b.legs n))
       ∙ first_key 128 b.legs b.legs_numbered (λ n _. unused_in (values b.circuits) n)
-      ∙ sym (pick_keys (unused_in (values b.circuits)) (keys b.legs) (values b.legs) (ordered 128 b.legs b.legs_numbered).0)
+      ∙ sym (pick_keys (unused_in (values b.circuits)) b.legs.entries)
 
   stands : (o : Option Leg) → is_some (option_map leg_record o) ≡ on_some (λ _. true) o
   stands None = refl
   stands (Some l) = refl
 
-  some_pick : (ks : List ℕ) (vs : List Leg) → length vs ≡ length ks → is_some (pick (λ _ _. true) (zip ks vs)) ≡ not (eqb (length ks) 0)
-  some_pick [] vs even = refl
-  some_pick (k ∷ ks) [] even = absurd (omega (arith, even))
-  some_pick (k ∷ ks) (v ∷ vs) even = sym (ap not (ne_eqb (length (k ∷ ks)) 0 (λ e. omega (arith, e))))
+  some_pick : (es : List (ℕ × Leg)) → is_some (pick (λ _ _. true) es) ≡ not (eqb (length es) 0)
+  some_pick [] = refl
+  some_pick (e ∷ es) = sym (ap not (ne_eqb (length (e ∷ es)) 0 (λ e. omega (arith, e))))
 
   -- a leg stands just where the map is not empty
-  pub any_is : any_leg (surveyed b) ≡ not (eqb (length (keys b.legs)) 0)
+  pub any_is : any_leg (surveyed b) ≡ not (eqb (length b.legs.entries) 0)
   unfolding leg_numbers
   any_is =
       ap is_some (first_equal (λ n. is_some ((surveyed b).legs n)) (λ n. on_some (λ _. true) (table b.legs n)) (range_with_len 1 128) (λ n. stands (table b.legs n)) ∙ first_key 128 b.legs b.legs_numbered (λ _ _. true))
-      ∙ some_pick (keys b.legs) (values b.legs) (ordered 128 b.legs b.legs_numbered).0
+      ∙ some_pick b.legs.entries

@@ -1,5 +1,6 @@
 // A survey's book: the quantity and the standard that it was opened with, and legs and circuits by number.
 ghost use Rattle.std.specs.Prelude.{T};
+ghost use Rattle.std.proofs.Props.{props};
 ghost use Rattle.survey.specs.Numbered.{Numbered, every};
 ghost use Rattle.survey.specs.Standing.{own_leg, own_circuit, chains_over};
 
@@ -20,8 +21,8 @@ pub struct Book<Q, S> {
     pub legs: BTreeMap<u8, Leg>,
     pub circuits: BTreeMap<u8, Circuit>,
     // numbers are in order and in range, and each value has its own
-    ghost legs_numbered: { Numbered 128 legs },
-    ghost circuits_numbered: { Numbered 32 circuits },
+    ghost legs_numbered: { Numbered 128 legs } by { Prim.hlevel props },
+    ghost circuits_numbered: { Numbered 32 circuits } by { Prim.hlevel props },
     ghost own_legs: { T (every own_leg legs) },
     ghost own_circuits: { T (every own_circuit circuits) },
     // each circuit's legs stand, none is named twice, and each begins where the one before it ended

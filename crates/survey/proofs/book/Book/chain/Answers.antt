@@ -12,24 +12,24 @@ use Rattle.survey.proofs.book.Book.chain.Goals as goal
 pub stretch-requires : goal.stretch-requires
 stretch-requires g c = one_ranged c.args.words.now 0 c.requires.some c.requires.ranged
 
-pub returns-in-err-first : goal.returns-in-err-first
-returns-in-err-first g c =
+pub returns-in_err-first : goal.returns-in_err-first
+returns-in_err-first g c =
     let legs = (surveyed c.args.self.now).legs in
     let ws = c.args.words.now in
-    let p = err_from_is_err_and c.from-residual.result c.from-residual.ensures.1 in
-    let none = c.in-err-first.ensures in
+    let p = err_from_is_err_and c.from_residual.result c.from_residual.ensures.1 in
+    let none = c.in_err-first.ensures in
     rw (p.1, p.2, none.1) (sym (ap (λ o. unless o (form (runs legs (map use_read ws)))) (left_absent ws 0 c.requires.some legs None none.0)))
 
 pub stretch-requires-in-loop-i : goal.stretch-requires-in-loop-i
 stretch-requires-in-loop-i g c = one_ranged c.args.words.now c.loop-i.i c.loop-i-test.true c.requires.ranged
 
-pub returns-in-err-next : goal.returns-in-err-next
-returns-in-err-next g c =
+pub returns-in_err-next : goal.returns-in_err-next
+returns-in_err-next g c =
     let legs = (surveyed c.args.self.now).legs in
     let ws = c.args.words.now in
     let i = c.loop-i.i in
-    let p = err_from_is_err_and c.from-residual-in-err-next.result c.from-residual-in-err-next.ensures.1 in
-    let none = c.in-err-next.ensures in
+    let p = err_from_is_err_and c.from_residual-in_err-next.result c.from_residual-in_err-next.ensures.1 in
+    let none = c.in_err-next.ensures in
     rw (p.1, p.2, none.1)
     (sym (ap (λ o. unless o (form (runs legs (map use_read ws)))) (sym c.loop-i.invariant.0 ∙ left_absent ws i c.loop-i-test.true legs (Some c.loop-i.node) none.0)))
 
@@ -38,7 +38,7 @@ returns-then-names g c =
     let legs = (surveyed c.args.self.now).legs in
     let ws = c.args.words.now in
     let i = c.loop-i.i in
-    let next = c.in-ok-next.ensures in
+    let next = c.in_ok-next.ensures in
     let all : i - 0 ≡ i = omega arith in
     let twice = ap₂ (λ m n. names m (map use_read (take n ws))) (sym next.0) (sym all) ∙ sym c.if-names.ensures in
     ap Err c.refuse.ensures
@@ -49,7 +49,7 @@ returns-then-next-node g c =
     let legs = (surveyed c.args.self.now).legs in
     let ws = c.args.words.now in
     let i = c.loop-i.i in
-    let next = c.in-ok-next.ensures in
+    let next = c.in_ok-next.ensures in
     let all : i - 0 ≡ i = omega arith in
     let once = ap₂ (λ m n. names m (map use_read (take n ws))) (sym next.0) (sym all) ∙ sym c.if-names.ensures in
     ap Err c.refuse-then-next-node.ensures
@@ -61,7 +61,7 @@ loop-i-preserved g c =
     let legs = (surveyed c.args.self.now).legs in
     let ws = c.args.words.now in
     let i = c.loop-i.i in
-    let next = c.in-ok-next.ensures in
+    let next = c.in_ok-next.ensures in
     let all : i - 0 ≡ i = omega arith in
     let once = ap₂ (λ m n. names m (map use_read (take n ws))) (sym next.0) (sym all) ∙ sym c.if-names.ensures in
     let l = next.1.0 in
@@ -70,8 +70,8 @@ loop-i-preserved g c =
     let more = runs_next ws i c.loop-i-test.true legs l next.1.1 in (
       ap (λ e. chain_left legs ws (i + 1) (Some e)) end ∙ sym step ∙ c.loop-i.invariant.0,
       c.loop-i.invariant.1
-          ∙ ap (λ rs. eqb c.in-ok-first.first.begin (last_node c.loop-i.node rs)) more
-          ∙ ap (λ e. eqb c.in-ok-first.first.begin (last_node e (runs legs (later ws (i + 1))))) (sym end),
+          ∙ ap (λ rs. eqb c.in_ok-first.first.begin (last_node c.loop-i.node rs)) more
+          ∙ ap (λ e. eqb c.in_ok-first.first.begin (last_node e (runs legs (later ws (i + 1))))) (sym end),
       omega (arith, c.loop-i.invariant.2, ap length more),
     )
 
@@ -83,6 +83,6 @@ returns g c =
     let over : length ws ≤ i = c.loop-i-test.false in
     let none = sym c.loop-i.invariant.0 ∙ left_over legs ws i (Some c.loop-i.node) over in
     let nothing : runs legs (later ws i) ≡ [] = ap (runs legs) (at_drop_all (map use_read) ws i over) in
-    let shut = c.loop-i.invariant.1 ∙ ap (λ rs. eqb c.in-ok-first.first.begin (last_node c.loop-i.node rs)) nothing in
+    let shut = c.loop-i.invariant.1 ∙ ap (λ rs. eqb c.in_ok-first.first.begin (last_node c.loop-i.node rs)) nothing in
     let many : length (runs legs (map use_read ws)) ≡ length ws = omega (arith, c.loop-i.invariant.2, ap length nothing, c.loop-i.auto.i-end, c.requires.some, over) in
     ap Ok (λ j. record { closed = sym shut j; legs = sym many j }) ∙ sym (ap (λ o. unless o (form (runs legs (map use_read ws)))) none)

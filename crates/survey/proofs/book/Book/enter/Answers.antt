@@ -13,52 +13,47 @@ use Rattle.survey.proofs.Soundness.{read_unchanged}
 use Rattle.survey.proofs.Tables.{numbered_inserted, every_inserted, passes}
 use Rattle.survey.proofs.book.Book.enter.Goals as goal
 
-pub returns-in-err-leg : goal.returns-in-err-leg
-returns-in-err-leg g c =
+pub returns-in_err-leg : goal.returns-in_err-leg
+returns-in_err-leg g c =
     let b = c.args.self.now in
     let ws = c.args.words.now in
     let q = g.Q.Quantity.meaning b.quantity in
     let s = g.S.Standard.meaning b.standard in
-    let p = err_from_is_err_and c.from-residual.result c.from-residual.ensures.1 in
+    let p = err_from_is_err_and c.from_residual.result c.from_residual.ensures.1 in
     rw (p.1, p.2)
     (refuses is_done (plain_book b) ws done (with_leg (surveyed b) (leg_read ws).number (Some (leg_read ws))) ws (first (enter_refusals q s (surveyed b) ws)) _
-    (was_refused _ (leg_read ws) _ c.in-err-leg.ensures))
+    (was_refused _ (leg_read ws) _ c.in_err-leg.ensures))
 
-pub invariant-of-self : goal.invariant-of-self
-invariant-of-self g c =
+pub invariant_of-self : goal.invariant_of-self
+invariant_of-self g c =
     let b = c.args.self.now in
     let ws = c.args.words.now in
     let q = g.Q.Quantity.meaning b.quantity in
     let s = g.S.Standard.meaning b.standard in
-    let l = c.in-ok-leg.leg in
+    let l = c.in_ok-leg.leg in
     let n = l.number.value in
-    let given = was_given _ (leg_read ws) _ c.in-ok-leg.ensures in
+    let given = was_given _ (leg_read ws) _ c.in_ok-leg.ensures in
     let after = c.insert.new.self in
-    let inserted = c.insert.ensures.inserted in (
-      numbered_inserted 128 b.legs after n l _ inserted b.legs_numbered (passes _ l.number.ranged),
-      (
-        b.circuits_numbered,
-        (
-          every_inserted 128 own_leg b.legs after n l _ inserted b.legs_numbered b.own_legs (passes _ (eq-eqb n n refl)),
-          (
-            b.own_circuits,
-            (entered_chained q s b ws l after given.1 _ inserted given.0, tt),
-          ),
-        ),
-      ),
-    )
+    let inserted = c.insert.ensures in
+    record {
+      legs_numbered = numbered_inserted b.legs after n l inserted.ordered 128 _ inserted.updates inserted.err b.legs_numbered (passes _ l.number.ranged);
+      circuits_numbered = b.circuits_numbered;
+      own_legs = every_inserted b.legs after n l inserted.ordered own_leg _ inserted.updates inserted.err b.own_legs (passes _ (eq-eqb n n refl));
+      own_circuits = b.own_circuits;
+      chained = entered_chained q s b ws l after given.1 _ inserted.updates inserted.err given.0;
+    }
 
-pub returns-in-err-insert : goal.returns-in-err-insert
-returns-in-err-insert g c =
+pub returns-in_err-insert : goal.returns-in_err-insert
+returns-in_err-insert g c =
     let b = c.args.self.now in
     let ws = c.args.words.now in
     let q = g.Q.Quantity.meaning b.quantity in
     let s = g.S.Standard.meaning b.standard in
-    let p = err_from_is_err_and c.from-residual-in-err-insert.result c.from-residual-in-err-insert.ensures.1 in
-    let legs = read_unchanged leg_record b.legs c.insert.new.self c.in-err-insert.ensures.inserted.1 in
+    let p = err_from_is_err_and c.from_residual-in_err-insert.result c.from_residual-in_err-insert.ensures.1 in
+    let legs = read_unchanged leg_record b.legs c.insert.new.self c.in_err-insert.ensures.err in
     rw (p.1, p.2)
     (lacks is_done (plain_book b) ws done (with_leg (surveyed b) (leg_read ws).number (Some (leg_read ws))) ws (first (enter_refusals q s (surveyed b) ws)) _
-    (was_given _ (leg_read ws) _ c.in-ok-leg.ensures).0
+    (was_given _ (leg_read ws) _ c.in_ok-leg.ensures).0
     (λ i. record { quantity = b.quantity; standard = b.standard; survey = record { legs = legs i; circuits = (surveyed b).circuits } }))
 
 pub returns : goal.returns
@@ -67,8 +62,8 @@ returns g c =
     let ws = c.args.words.now in
     let q = g.Q.Quantity.meaning b.quantity in
     let s = g.S.Standard.meaning b.standard in
-    let given = was_given _ (leg_read ws) _ c.in-ok-leg.ensures in
-    let legs = entered_legs q s b ws c.in-ok-leg.leg c.insert.new.self given.1 c.in-ok-insert.ensures.inserted.3 in
+    let given = was_given _ (leg_read ws) _ c.in_ok-leg.ensures in
+    let legs = entered_legs q s b ws c.in_ok-leg.leg c.insert.new.self given.1 c.in_ok-insert.ensures.updates in
     answers is_done (plain_book b) ws done (with_leg (surveyed b) (leg_read ws).number (Some (leg_read ws))) ws (first (enter_refusals q s (surveyed b) ws)) tt _
     given.0 refl
     (λ i. record { quantity = b.quantity; standard = b.standard; survey = record { legs = legs i; circuits = (surveyed b).circuits } })

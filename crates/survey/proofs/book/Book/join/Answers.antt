@@ -13,69 +13,64 @@ use Rattle.survey.proofs.Soundness.{read_unchanged}
 use Rattle.survey.proofs.Tables.{numbered_inserted, every_inserted, passes}
 use Rattle.survey.proofs.book.Book.join.Goals as goal
 
-pub returns-in-err-check-circuit : goal.returns-in-err-check-circuit
-returns-in-err-check-circuit g c =
+pub returns-in_err-check_circuit : goal.returns-in_err-check_circuit
+returns-in_err-check_circuit g c =
     let b = c.args.self.now in
     let ws = c.args.words.now in
     let q = g.Q.Quantity.meaning b.quantity in
     let s = g.S.Standard.meaning b.standard in
-    let p = err_from_is_err_and c.from-residual.result c.from-residual.ensures.1 in
+    let p = err_from_is_err_and c.from_residual.result c.from_residual.ensures.1 in
     rw (p.1, p.2)
     (refuses is_done (plain_book b) ws done (with_circuit (surveyed b) (circuit_read ws).number (Some (circuit_read ws))) ws (first (join_refusals q s (surveyed b) ws)) _
-    (was_refused _ tt _ c.in-err-check-circuit.ensures))
+    (was_refused _ tt _ c.in_err-check_circuit.ensures))
 
-pub returns-in-err-circuit : goal.returns-in-err-circuit
-returns-in-err-circuit g c =
+pub returns-in_err-circuit : goal.returns-in_err-circuit
+returns-in_err-circuit g c =
     let b = c.args.self.now in
     let ws = c.args.words.now in
     let q = g.Q.Quantity.meaning b.quantity in
     let s = g.S.Standard.meaning b.standard in
-    let none = (was_given (first (join_refusals q s (surveyed b) ws)) tt _ c.in-ok-check-circuit.ensures).0 in
+    let none = (was_given (first (join_refusals q s (surveyed b) ws)) tt _ c.in_ok-check_circuit.ensures).0 in
     let read = words_pass q s (surveyed b) ws none in
     let joined = with_circuit (surveyed b) (circuit_read ws).number (Some (circuit_read ws)) in
-    let p = err_from_is_err_and c.from-residual-in-err-circuit.result c.from-residual-in-err-circuit.ensures.1 in
-    let memory = decode_lacks ws read _ c.in-err-circuit.ensures.gives in
+    let p = err_from_is_err_and c.from_residual-in_err-circuit.result c.from_residual-in_err-circuit.ensures.1 in
+    let memory = decode_lacks ws read _ c.in_err-circuit.ensures.gives in
     rw (p.1, p.2, memory) (lacks is_done (plain_book b) ws done joined ws (first (join_refusals q s (surveyed b) ws)) _ none refl)
 
-pub invariant-of-self : goal.invariant-of-self
-invariant-of-self g c =
+pub invariant_of-self : goal.invariant_of-self
+invariant_of-self g c =
     let b = c.args.self.now in
     let ws = c.args.words.now in
     let q = g.Q.Quantity.meaning b.quantity in
     let s = g.S.Standard.meaning b.standard in
-    let none = (was_given (first (join_refusals q s (surveyed b) ws)) tt _ c.in-ok-check-circuit.ensures).0 in
+    let none = (was_given (first (join_refusals q s (surveyed b) ws)) tt _ c.in_ok-check_circuit.ensures).0 in
     let read = words_pass q s (surveyed b) ws none in
     let joined = with_circuit (surveyed b) (circuit_read ws).number (Some (circuit_read ws)) in
-    let circuit = c.in-ok-circuit.circuit in
+    let circuit = c.in_ok-circuit.circuit in
     let n = circuit.number.value in
-    let is = decode_gives ws read circuit c.in-ok-circuit.ensures.gives in
+    let is = decode_gives ws read circuit c.in_ok-circuit.ensures.gives in
     let after = c.insert.new.self in
-    let inserted = c.insert.ensures.inserted in
-    let numbered = numbered_inserted 32 b.circuits after n circuit _ inserted b.circuits_numbered (passes _ circuit.number.ranged) in (
-      b.legs_numbered,
-      (
-        numbered,
-        (
-          b.own_legs,
-          (
-            every_inserted 32 own_circuit b.circuits after n circuit _ inserted b.circuits_numbered b.own_circuits (passes _ (eq-eqb n n refl)),
-            (joined_chained q s b ws circuit after is _ inserted numbered none, tt),
-          ),
-        ),
-      ),
-    )
+    let inserted = c.insert.ensures in
+    let numbered = numbered_inserted b.circuits after n circuit inserted.ordered 32 _ inserted.updates inserted.err b.circuits_numbered (passes _ circuit.number.ranged) in
+    record {
+      legs_numbered = b.legs_numbered;
+      circuits_numbered = numbered;
+      own_legs = b.own_legs;
+      own_circuits = every_inserted b.circuits after n circuit inserted.ordered own_circuit _ inserted.updates inserted.err b.own_circuits (passes _ (eq-eqb n n refl));
+      chained = joined_chained q s b ws circuit after is _ inserted.updates inserted.err numbered none;
+    }
 
-pub returns-in-err-insert : goal.returns-in-err-insert
-returns-in-err-insert g c =
+pub returns-in_err-insert : goal.returns-in_err-insert
+returns-in_err-insert g c =
     let b = c.args.self.now in
     let ws = c.args.words.now in
     let q = g.Q.Quantity.meaning b.quantity in
     let s = g.S.Standard.meaning b.standard in
-    let none = (was_given (first (join_refusals q s (surveyed b) ws)) tt _ c.in-ok-check-circuit.ensures).0 in
+    let none = (was_given (first (join_refusals q s (surveyed b) ws)) tt _ c.in_ok-check_circuit.ensures).0 in
     let read = words_pass q s (surveyed b) ws none in
     let joined = with_circuit (surveyed b) (circuit_read ws).number (Some (circuit_read ws)) in
-    let p = err_from_is_err_and c.from-residual-in-err-insert.result c.from-residual-in-err-insert.ensures.1 in
-    let circuits = read_unchanged circuit_record b.circuits c.insert.new.self c.in-err-insert.ensures.inserted.1 in
+    let p = err_from_is_err_and c.from_residual-in_err-insert.result c.from_residual-in_err-insert.ensures.1 in
+    let circuits = read_unchanged circuit_record b.circuits c.insert.new.self c.in_err-insert.ensures.err in
     rw (p.1, p.2)
     (lacks is_done (plain_book b) ws done joined ws (first (join_refusals q s (surveyed b) ws)) _ none
     (λ i. record { quantity = b.quantity; standard = b.standard; survey = record { legs = (surveyed b).legs; circuits = circuits i } }))
@@ -86,11 +81,11 @@ returns g c =
     let ws = c.args.words.now in
     let q = g.Q.Quantity.meaning b.quantity in
     let s = g.S.Standard.meaning b.standard in
-    let none = (was_given (first (join_refusals q s (surveyed b) ws)) tt _ c.in-ok-check-circuit.ensures).0 in
+    let none = (was_given (first (join_refusals q s (surveyed b) ws)) tt _ c.in_ok-check_circuit.ensures).0 in
     let read = words_pass q s (surveyed b) ws none in
     let joined = with_circuit (surveyed b) (circuit_read ws).number (Some (circuit_read ws)) in
-    let circuit = c.in-ok-circuit.circuit in
-    let is = decode_gives ws read circuit c.in-ok-circuit.ensures.gives in
-    let circuits = joined_circuits q s b ws circuit c.insert.new.self is c.in-ok-insert.ensures.inserted.3 in
+    let circuit = c.in_ok-circuit.circuit in
+    let is = decode_gives ws read circuit c.in_ok-circuit.ensures.gives in
+    let circuits = joined_circuits q s b ws circuit c.insert.new.self is c.in_ok-insert.ensures.updates in
     answers is_done (plain_book b) ws done joined ws (first (join_refusals q s (surveyed b) ws)) tt _ none refl
     (λ i. record { quantity = b.quantity; standard = b.standard; survey = record { legs = (surveyed b).legs; circuits = circuits i } })

@@ -1,6 +1,4 @@
-use Rattle.std.proofs.Common.{◌≡◌, sym, ap, ◌∙◌, ap₂, arith}
-use Rattle.std.specs.List.{zip}
-use Rattle.std.proofs.lemmas.Map.Pairs.{pairs-rest-all}
+use Rattle.std.proofs.Common.{◌≡◌, sym, ap, ◌∙◌, arith}
 use Rattle.survey.proofs.Picks.{pick, pick_skip, pick_take}
 use Rattle.survey.proofs.Using.{among, uses_leg, among_more, among_here, among_none, user_is}
 use Rattle.survey.proofs.book.Book.user_of.Goals as goal
@@ -13,7 +11,7 @@ pub loop-number-preserved : goal.loop-number-preserved
 loop-number-preserved g c =
     let turn = c.in-Some.ensures.steps in
     let leg = c.args.leg in
-    pick_skip (uses_leg leg) (ap₂ zip turn.0 turn.1)
+    pick_skip (uses_leg leg) turn
     (ap (among leg) (sym c.deref-used-items.ensures.value) ∙ sym c.loop-used.invariant ∙ among_none leg c.deref-used-items.result.now c.loop-used.used-index (omega arith))
     c.loop-number.invariant
 
@@ -22,11 +20,11 @@ returns-then-used-leg g c =
     let turn = c.in-Some.ensures.steps in
     let leg = c.args.leg in
     sym (user_is c.args.self.now leg
-    ∙ pick_take (uses_leg leg) (ap₂ zip turn.0 turn.1)
+    ∙ pick_take (uses_leg leg) turn
     (ap (among leg) (sym c.deref-used-items.ensures.value) ∙ sym c.loop-used.invariant ∙ among_here leg c.deref-used-items.result.now c.loop-used.used-index c.used-item.result (omega arith) c.used-item.is c.if-used-leg.true)
     c.loop-number.invariant)
 
 pub returns : goal.returns
 returns g c =
     let leg = c.args.leg in
-    sym (user_is c.args.self.now leg ∙ sym c.loop-number.invariant ∙ ap (pick (uses_leg leg)) (pairs-rest-all _ _ _ c.in-None.is c.next.ensures.steps))
+    sym (user_is c.args.self.now leg ∙ sym c.loop-number.invariant ∙ ap (pick (uses_leg leg)) c.in-None.ensures.steps.0)

@@ -1,5 +1,4 @@
 use Rattle.std.proofs.Common.{◌≡◌, drop}
-use Rattle.std.proofs.lemmas.Map.Pairs.{pairs-rest}
 use Rattle.survey.proofs.Picks.{pick}
 use Rattle.survey.proofs.Using.{among, uses_leg}
 use Rattle.survey.proofs.book.Book.user_of.Given as goal
@@ -10,4 +9,4 @@ invariant-loop-used g l = among l.leg (drop l.used-index l.used-items) ≡ among
 
 abbrev pub invariant-loop-number : goal.invariant-loop-number
 invariant-loop-number g l =
-    pick (uses_leg l.leg) (pairs-rest l.number-iterator) ≡ pick (uses_leg l.leg) (l.self.circuits.entries)
+    pick (uses_leg l.leg) l.number-iterator ≡ pick (uses_leg l.leg) (l.self.circuits.entries)
