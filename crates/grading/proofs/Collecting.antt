@@ -25,8 +25,8 @@ pub map_turn : {A B : Type 0} (f : A → B) (vs : List B) {ws : List B} {xs ys :
 map_turn f vs {ys = ys} {x = x} pushed is turn inv =
     ap (λ us. us ++ map f ys) (pushed ∙ ap (λ y. vs ++ y ∷ []) is) ∙ append_assoc vs (f x ∷ []) (map f ys) ∙ ap (λ us. vs ++ map f us) (sym turn) ∙ inv
 
-pub map_end : {A B : Type 0} (f : A → B) (vs : List B) (xs : List A) {all : List B} → length xs ≡ 0 → vs ++ map f xs ≡ all → vs ≡ all
-map_end f vs xs none inv = sym (append-nil vs) ∙ ap (λ us. vs ++ map f us) (sym (nil_from_length xs none)) ∙ inv
+pub map_end : {A B : Type 0} (f : A → B) (vs : List B) (xs : List A) {all : List B} → xs ≡ [] → vs ++ map f xs ≡ all → vs ≡ all
+map_end f vs xs none inv = sym (append-nil vs) ∙ ap (λ us. vs ++ map f us) (sym none) ∙ inv
 
 map_twice : {A B C : Type 0} (f : B → C) (g : A → B) (xs : List A) → map f (map g xs) ≡ map (λ x. f (g x)) xs
 map_twice f g [] = refl
@@ -61,9 +61,8 @@ counted_turn g xs ys x f n n' sum sum' all turn is en es h =
     let total : closure_sum (map g xs) ≡ f.closure + closure_sum (map g ys) = ap (λ l. closure_sum (map g l)) turn ∙ sym (ap (λ f. f.closure + closure_sum (map g ys)) is) in
     record { circuits = omega (arith, h.circuits, count, en); closures = omega (arith, h.closures, total, es) }
 
-pub counted_all : {A : Type 0} (g : A → CircuitFinding) (xs : List A) (n sum : ℕ) (all : List CircuitFinding) → length xs ≡ 0 → sum ≤ 2 ^ 64 - 1 → Counted n sum (map g xs) all → record { circuits = n; closures = sum } ≡ whole_finding all
+pub counted_all : {A : Type 0} (g : A → CircuitFinding) (xs : List A) (n sum : ℕ) (all : List CircuitFinding) → xs ≡ [] → sum ≤ 2 ^ 64 - 1 → Counted n sum (map g xs) all → record { circuits = n; closures = sum } ≡ whole_finding all
 counted_all g xs n sum all none fits h =
-    let empty = nil_from_length xs none in
-    let count : n ≡ closed_count all = omega (arith, h.circuits, ap (λ l. closed_count (map g l)) empty) in
-    let total : sum ≡ min (closure_sum all) (2 ^ 64 - 1) = omega (arith, h.closures, ap (λ l. closure_sum (map g l)) empty) in
+    let count : n ≡ closed_count all = omega (arith, h.circuits, ap (λ l. closed_count (map g l)) none) in
+    let total : sum ≡ min (closure_sum all) (2 ^ 64 - 1) = omega (arith, h.closures, ap (λ l. closure_sum (map g l)) none) in
     λ i. record { circuits = count i; closures = total i }

@@ -1,11 +1,10 @@
 -- What entering a leg answers, and that the book stays sound. Assumes nothing.
-use Rattle.std.proofs.Common.{◌≡◌, ℕ, Bool, true, false, T, eqb, List, [], ◌∷◌, ◌++◌, is_some, Some, None, Ok, Err, Option, Result, OnOk, OnErr, sym, refl, ap, ◌∙◌}
+use Rattle.std.proofs.Common.{◌≡◌, ℕ, true, false, T, eqb, List, [], ◌∷◌, ◌++◌, is_some, Some, None, Ok, Err, Option, Result, OnOk, OnErr, refl, ap, ◌∙◌}
 use Rattle.std.specs.declared.alloc.AllocFailed.{AllocFailed}
 use Rattle.std.specs.BTreeMap.{BTreeMap}
 use Rattle.std.specs.BTreeMap.{IsUnchanged, Updates}
 use Rattle.std.specs.Map.{update}
 use Rattle.std.specs.Ordering.{nat_cmp}
-use Rattle.std.specs.Option.{option_map}
 use Rattle.records.specs.declared.leg.Leg.{Leg}
 use Rattle.records.specs.declared.refusal.Reason.TheVariants.{Taken}
 use Rattle.records.specs.declared.refusal.Refusal.{Refusal}
@@ -21,7 +20,7 @@ use Rattle.plainbook.specs.Surveys.{Survey}
 use Rattle.plainbook.proofs.Invariant.{enter_sound}
 use Rattle.survey.specs.declared.book.Book.{Book}
 use Rattle.survey.specs.Books.{surveyed}
-use Rattle.survey.specs.Numbered.{every, Numbered}
+use Rattle.survey.specs.Numbered.{every}
 use Rattle.survey.specs.Standing.{standing_legs, chains_over}
 use Rattle.survey.proofs.Outcomes.{first_after, first_at, after_all, within, refused_where, not_refused}
 use Rattle.survey.proofs.Soundness.{sound, chained, read_sets, read_unchanged}

@@ -1,5 +1,5 @@
 -- The keys and values of a map at numbers, as what stands in the order of the numbers. Assumes nothing.
-use Rattle.std.proofs.Common.{◌≡◌, ℕ, zero, suc, ◌+◌, ◌<◌, ◌≤◌, Bool, true, false, cond, T, List, [], ◌∷◌, ◌++◌, map, length, Some, None, Option, Less, sym, refl, ap, ◌∙◌, subst, ap₂, ⊎_elim, append_assoc, append-nil, arith}
+use Rattle.std.proofs.Common.{◌≡◌, ℕ, zero, suc, ◌+◌, ◌<◌, ◌≤◌, Bool, false, cond, T, List, [], ◌∷◌, ◌++◌, length, Some, None, Option, Less, sym, refl, ap, ◌∙◌, subst, ap₂, ⊎_elim, arith}
 use Rattle.std.specs.BTreeMap.{BTreeMap}
 use Rattle.std.specs.BTreeMap.{keys, values}
 use Rattle.std.specs.List as Finite
@@ -10,6 +10,7 @@ use Rattle.std.specs.Ordering.{nat_cmp}
 use Rattle.std.specs.List.Sorted.{IsStrictlySortedBy}
 use Rattle.std.specs.Option.{option_to_list}
 use Rattle.std.proofs.lemmas.Bool.{cases_order, ne_eqb}
+use Rattle.std.proofs.lemmas.Map.Entries.{length-keys_of, length-values_of}
 use Rattle.records.specs.Ranges.{between}
 use Rattle.plainbook.specs.Surveys.{standing, first_number}
 use Rattle.survey.specs.Numbered.{Numbered, table}
@@ -108,9 +109,12 @@ module _ {X : Type 0} (high : ℕ) (m : BTreeMap ℕ X) (o : Numbered high m) wh
   pub first_key : (t : ℕ → X → Bool) → first_number (λ q. on_some (t q) (table m q)) (range_with_len 1 high) ≡ pick t (m.entries)
   first_key t = first_vals t high 1 (1 + high) m.entries refl rising
 
-  pub few_keys : length (keys m) ≤ high
+  few_keys : length (keys m) ≤ high
   few_keys = omega (arith, few 1 (1 + high) (keys m) (omega arith) rising)
     where
       few : (a b : ℕ) (ks : List ℕ) → a ≤ b → Climb a b ks → length ks + a ≤ b
       few a b [] l h = omega arith
       few a b (k ∷ ks) l h = let rest = few (k + 1) b ks (omega (arith, h.1)) h.2 in omega (arith, rest, h.0)
+
+  pub few_values : length (values m) ≤ high
+  few_values = omega (arith, few_keys, length-keys_of m.entries, length-values_of m.entries)

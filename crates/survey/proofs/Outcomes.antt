@@ -1,11 +1,11 @@
 -- The first refusal of a list, and what a call answers by it. Assumes nothing.
-use Rattle.std.proofs.Common.{◌≡◌, ℕ, Bool, true, false, cond, List, [], ◌∷◌, ◌++◌, is_ok, Some, None, Ok, Err, Option, Result, sym, refl, ap, ◌∙◌, arith}
+use Rattle.std.proofs.Common.{◌≡◌, ℕ, Bool, true, false, cond, List, [], ◌∷◌, ◌++◌, is_ok, Some, None, Ok, Err, Option, sym, refl, ap, ◌∙◌, arith}
 use Rattle.records.specs.declared.refusal.Reason.{Reason}
 use Rattle.records.specs.declared.refusal.Refusal.{Refusal}
 use Rattle.records.specs.declared.refusal.Fault.TheVariants.{Refused, Memory}
-use Rattle.records.specs.Refusals.{refusal, first, unless, seen}
+use Rattle.records.specs.Refusals.{refusal, first, unless}
 use Rattle.plainbook.specs.Refusals.{refused_if}
-use Rattle.plainbook.specs.Steps.{Held, Outcome, Answer, holding, unless_refused}
+use Rattle.plainbook.specs.Steps.{Held, Answer, holding, unless_refused}
 use Rattle.plainbook.specs.Surveys.{Survey}
 use Rattle.survey.specs.Books.{Answers, AnswersAlways}
 

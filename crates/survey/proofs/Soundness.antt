@@ -1,11 +1,11 @@
 -- What stands in a book, as a sound survey. Assumes nothing.
-use Rattle.std.proofs.Common.{◌≡◌, ℕ, Bool, true, false, not, T, eqb, List, [], is_some, Some, None, Option, sym, refl, ap, ◌∙◌, subst, arith}
+use Rattle.std.proofs.Common.{◌≡◌, ℕ, not, T, eqb, [], is_some, Some, None, Option, sym, refl, ap, ◌∙◌, subst, arith}
 use Rattle.std.specs.BTreeMap.{BTreeMap}
 use Rattle.std.specs.BTreeMap.{Updates, IsUnchanged}
 use Rattle.std.specs.Map.{update}
 use Rattle.std.specs.Ordering.{nat_cmp}
 use Rattle.std.specs.Option.{option_map}
-use Rattle.std.proofs.lemmas.Bool.{not-true, not_from_false}
+use Rattle.std.proofs.lemmas.Bool.{not-true}
 use Rattle.records.specs.declared.circuit.Circuit.{Circuit}
 use Rattle.records.specs.declared.leg.Leg.{Leg}
 use Rattle.records.specs.declared.refusal.Refusal.{Refusal}
@@ -14,7 +14,6 @@ use Rattle.records.specs.Legs.{LegRecord, leg_record}
 use Rattle.records.specs.Refusals.{first}
 use Rattle.plainbook.specs.Refusals.{chain_refusals}
 use Rattle.plainbook.specs.Surveys.{Survey}
-use Rattle.plainbook.specs.Steps.{Held}
 use Rattle.plainbook.proofs.Invariant.{Sound}
 use Rattle.survey.specs.declared.book.Book.{Book}
 use Rattle.survey.specs.Books.{surveyed}

@@ -1,7 +1,6 @@
 -- What a strike answers. Assumes nothing.
-use Rattle.std.proofs.Common.{◌≡◌, ℕ, true, false, not, List, [], ◌∷◌, is_some, Some, None, Option, sym, refl, ap, ◌∙◌}
+use Rattle.std.proofs.Common.{◌≡◌, ℕ, true, false, not, [], ◌∷◌, is_some, Some, None, Option, refl, ap, ◌∙◌}
 use Rattle.records.specs.declared.refusal.Reason.TheVariants.{Range, Absent, InUse}
-use Rattle.records.specs.declared.refusal.Refusal.{Refusal}
 use Rattle.records.specs.Ranges.{is_leg_number, is_circuit_number}
 use Rattle.records.specs.Refusals.{first, refusal}
 use Rattle.quantities.specs.Terms.{Terms}

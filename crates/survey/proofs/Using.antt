@@ -11,7 +11,7 @@ use Rattle.records.specs.declared.circuit.LegUse.{LegUse}
 use Rattle.records.specs.declared.leg.Leg.{Leg}
 use Rattle.records.specs.Circuits.{circuit_record, use_record}
 use Rattle.records.specs.Legs.{leg_record}
-use Rattle.plainbook.specs.Surveys.{names, circuit_names, user, uses, loose, loose_leg, any_leg, first_number, leg_numbers, circuit_numbers}
+use Rattle.plainbook.specs.Surveys.{names, circuit_names, user, uses, loose, loose_leg, any_leg, leg_numbers, circuit_numbers}
 use Rattle.survey.specs.declared.book.Book.{Book}
 use Rattle.survey.specs.Books.{surveyed}
 use Rattle.survey.specs.Numbered.{table}

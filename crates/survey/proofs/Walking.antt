@@ -1,7 +1,7 @@
 -- Leg by leg along a circuit that is to be joined. Assumes nothing.
-use Rattle.std.proofs.Common.{◌≡◌, ℕ, zero, suc, ◌+◌, ◌<◌, ◌≤◌, Bool, true, false, cond, not, ◌||◌, eqb, List, [], ◌∷◌, ◌++◌, map, reverse, length, get_or, take, drop, is_some, Some, None, Option, sym, refl, ap, ◌∙◌, subst, ap₂, add-one, arith}
+use Rattle.std.proofs.Common.{◌≡◌, ℕ, zero, suc, ◌+◌, ◌<◌, ◌≤◌, Bool, true, false, cond, not, ◌||◌, eqb, List, [], ◌∷◌, ◌++◌, map, reverse, length, get_or, take, drop, is_some, Some, None, Option, sym, refl, ap, ◌∙◌, ap₂, arith}
 use Rattle.std.specs.Option.{option_map, option_to_list}
-use Rattle.std.proofs.lemmas.List.{at_drop_more, at_drop_all, drop_more, take_more, map_push, reverse-append}
+use Rattle.std.proofs.lemmas.List.{at_drop_all, drop_more, take_more, map_push, reverse-append}
 use Rattle.std.proofs.lemmas.Bool.{eq-eqb, ne_eqb}
 use Rattle.records.specs.declared.refusal.Reason.TheVariants.{Absent, Twice, Broken}
 use Rattle.records.specs.declared.refusal.Refusal.{Refusal}
@@ -9,9 +9,8 @@ use Rattle.records.specs.Circuits.{UseRecord, use_read, use_unranged, use_ranged
 use Rattle.records.specs.Legs.{LegRecord}
 use Rattle.records.specs.Refusals.{first}
 use Rattle.records.proofs.Circuits.{still_ranged}
-use Rattle.plainbook.specs.Findings.{form}
 use Rattle.plainbook.specs.Refusals.{chain_refusals, breaks, refused_if}
-use Rattle.plainbook.specs.Surveys.{Run, runs, run_of, begins, ends, names, last_node, closed}
+use Rattle.plainbook.specs.Surveys.{runs, run_of, begins, ends, names}
 use Rattle.survey.proofs.Outcomes.{first_after, first_at, refused_where, not_refused}
 
 -- ---- words that are all in range are so one by one

@@ -1,6 +1,5 @@
 use Rattle.std.proofs.Common.{◌≡◌, ◌++◌, map, vec_items}
 use Rattle.std.specs.BTreeMap.{values}
-use Rattle.std.specs.Slice.Iter.{iter_rest}
 use Rattle.records.specs.declared.circuit.Circuit.{Circuit}
 use Rattle.records.specs.Circuits.{circuit_record}
 use Rattle.plainbook.specs.Findings.{circuit_finding}
@@ -11,4 +10,4 @@ use Rattle.grading.proofs.collect.circuit_findings.Given as goal
 abbrev pub invariant-loop-circuit : goal.invariant-loop-circuit
 invariant-loop-circuit g l =
     let find = λ (x : Circuit). circuit_finding (g.Q.Quantity.meaning l.book.quantity) (surveyed l.book) (circuit_record x) in
-    vec_items l.findings ++ map find (iter_rest l.circuit-iterator) ≡ map find (values l.book.circuits)
+    vec_items l.findings ++ map find l.circuit-iterator ≡ map find (values l.book.circuits)

@@ -1,6 +1,5 @@
 use Rattle.std.proofs.Common.{◌≡◌, ◌++◌, map, vec_items}
 use Rattle.std.specs.BTreeMap.{values}
-use Rattle.std.specs.Slice.Iter.{iter_rest}
 use Rattle.records.specs.declared.leg.Leg.{Leg}
 use Rattle.records.specs.Legs.{leg_record}
 use Rattle.standards.specs.Observed.{leg_finding}
@@ -10,4 +9,4 @@ use Rattle.grading.proofs.collect.leg_findings.Given as goal
 abbrev pub invariant-loop-leg : goal.invariant-loop-leg
 invariant-loop-leg g l =
     let find = λ (x : Leg). leg_finding (g.Q.Quantity.meaning l.book.quantity) (leg_record x) in
-    vec_items l.findings ++ map find (iter_rest l.leg-iterator) ≡ map find (values l.book.legs)
+    vec_items l.findings ++ map find l.leg-iterator ≡ map find (values l.book.legs)

@@ -7,15 +7,15 @@ use Rattle.grading.proofs.Running.{SoFar, runs_of, far_more, far_end, run_next, 
 use Rattle.survey.proofs.Tables.{ordered}
 use Rattle.grading.proofs.findings.finding_of.Goals as goal
 
-pub loop-used-preserved-in-default : goal.loop-used-preserved-in-default
-loop-used-preserved-in-default g c =
+pub loop-used-preserved-in_default : goal.loop-used-preserved-in_default
+loop-used-preserved-in_default g c =
     let b = c.args.book.now in
     let q = g.Q.Quantity.meaning b.quantity in
     let legs = standing_legs b.legs in
     let us = c.deref-used-items.result.now in
     let i = c.loop-used.used-index in
     let u = c.used-item.result in
-    let gone = sym (ap (option_map leg_record) (c.in-default.ensures.finds u.leg.value refl (ordered 128 b.legs b.legs_numbered))) in (
+    let gone = sym (ap (option_map leg_record) c.in_default.ensures.value) in (
       subst (λ rs. SoFar q c.loop-used.path c.loop-used.metres c.loop-used.running c.loop-used.contributions c.loop-used.misclosures rs (runs_of legs us))
           (run_passed legs us i u (omega arith) c.used-item.is gone) c.loop-used.invariant.0,
       omega (arith, c.loop-used.invariant.1),
@@ -31,14 +31,14 @@ loop-used-preserved g c =
     let i = c.loop-used.used-index in
     let u = c.used-item.result in
     let l = c.in-Some.leg.now in
-    let stands = sym (ap (option_map leg_record) (c.in-Some.ensures.finds u.leg.value refl (ordered 128 b.legs b.legs_numbered))) in
+    let stands = sym (ap (option_map leg_record) c.in-Some.ensures.value) in
     let before = subst (λ rs. SoFar q c.loop-used.path c.loop-used.metres c.loop-used.running c.loop-used.contributions c.loop-used.misclosures rs (runs_of legs us))
     (run_next legs us i u (omega arith) c.used-item.is (leg_record l) stands) c.loop-used.invariant.0 in (
       far_more q c.loop-used.path _ c.loop-used.metres c.loop-used.running _ c.loop-used.contributions _ c.loop-used.misclosures _
           (record { leg = leg_record l; sense = u.sense }) (runs_of legs (drop (i + 1) us)) (runs_of legs us) before
           c.follow-path.ensures (c.joined-running.ensures ∙ ap (joined c.loop-used.running) c.running.ensures)
           (c.sum-contributions.ensures ∙ ap (q.plus c.loop-used.contributions) c.contribution.ensures)
-          (c.sum-misclosures.ensures ∙ ap (q.plus c.loop-used.misclosures) c.own-misclosure.ensures),
+          (c.sum-misclosures.ensures ∙ ap (q.plus c.loop-used.misclosures) c.own_misclosure.ensures),
       omega (arith, c.loop-used.invariant.1, l.length_fits),
       omega (arith, c.loop-used.invariant.2, ap (λ p. p.legs) c.follow-path.ensures),
     )

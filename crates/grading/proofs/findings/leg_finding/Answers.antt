@@ -8,9 +8,9 @@ use Rattle.grading.proofs.findings.leg_finding.Goals as goal
 pub returns-in-None : goal.returns-in-None
 returns-in-None g c =
     let b = c.args.book.now in
-    ap (λ o. option_map (leg_finding (g.Q.Quantity.meaning b.quantity)) (option_map leg_record o)) (c.in-None.ensures.finds c.args.number refl (ordered 128 b.legs b.legs_numbered))
+    ap (λ o. option_map (leg_finding (g.Q.Quantity.meaning b.quantity)) (option_map leg_record o)) c.in-None.ensures.value
 
 pub returns-in-Some : goal.returns-in-Some
 returns-in-Some g c =
     let b = c.args.book.now in
-    ap Some c.of.ensures ∙ ap (λ o. option_map (leg_finding (g.Q.Quantity.meaning b.quantity)) (option_map leg_record o)) (c.in-Some.ensures.finds c.args.number refl (ordered 128 b.legs b.legs_numbered))
+    ap Some c.of.ensures ∙ ap (λ o. option_map (leg_finding (g.Q.Quantity.meaning b.quantity)) (option_map leg_record o)) c.in-Some.ensures.value

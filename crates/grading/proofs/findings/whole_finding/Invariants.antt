@@ -1,6 +1,5 @@
 use Rattle.std.proofs.Common.{◌+◌, ◌-◌, ◌^◌, ◌≤◌, map, length}
 use Rattle.std.specs.BTreeMap.{values}
-use Rattle.std.specs.Slice.Iter.{iter_rest}
 use Rattle.grading.proofs.Collecting.{Counted, circuit_shown}
 use Rattle.grading.proofs.findings.whole_finding.Given as goal
 
@@ -8,6 +7,6 @@ use Rattle.grading.proofs.findings.whole_finding.Given as goal
 abbrev pub invariant-loop-circuit : goal.invariant-loop-circuit
 invariant-loop-circuit g l =
     let find = circuit_shown (g.Q.Quantity.meaning l.book.quantity) l.book in
-    Counted l.circuits l.closures (map find (iter_rest l.circuit-iterator)) (map find (values l.book.circuits))
-    × (l.circuits + length (iter_rest l.circuit-iterator) ≤ 32)
+    Counted l.circuits l.closures (map find l.circuit-iterator) (map find (values l.book.circuits))
+    × (l.circuits + length l.circuit-iterator ≤ 32)
     × (l.closures ≤ 2 ^ 64 - 1)

@@ -5,4 +5,4 @@ pub returns : goal.returns
 returns g c =
     λ k.
     c.both-2.ensures k
-    ∙ ap₂ ◌&&◌ (c.gather.ensures.gathered.members k) (c.both.ensures k ∙ ap₂ ◌&&◌ (c.gather-of-circuits.ensures.gathered.members k) (c.gather-of-whole.ensures.gathered.members k))
+    ∙ ap₂ ◌&&◌ (c.gather.ensures.gathered.members k) (c.both.ensures k ∙ ap₂ ◌&&◌ (c.gather-of_circuits.ensures.gathered.members k) (c.gather-of_whole.ensures.gathered.members k))

@@ -26,10 +26,10 @@ pub returns-in-legs : goal.returns-in-legs
 returns-in-legs g c =
     let number = c.in-Some.number.now in
     let b = c.args.book.now in
-    let unused = sym c.loop-circuit.invariant ∙ ap (used_in number) (nil_from_length _ c.in-None-circuit.ensures.steps.0) in
+    let unused = sym c.loop-circuit.invariant ∙ ap (used_in number) (c.in-None-circuit.ensures.steps.0) in
     sym (loose_is b ∙ key_take (unused_in (values b.circuits)) c.in-Some.ensures.steps (ap not unused) c.legs.invariant)
 
 pub returns : goal.returns
 returns g c =
     let b = c.args.book.now in
-    sym (loose_is b ∙ sym c.legs.invariant ∙ ap (pick_key (unused_in (values b.circuits))) (nil_from_length _ c.in-None.ensures.steps.0))
+    sym (loose_is b ∙ sym c.legs.invariant ∙ ap (pick_key (unused_in (values b.circuits))) (c.in-None.ensures.steps.0))

@@ -1,12 +1,12 @@
-use Rattle.std.proofs.Common.{◌≡◌, ℕ, ◌+◌, ◌-◌, ◌<◌, ◌≤◌, Bool, true, false, eqb, [], ◌∷◌, map, length, get_or, take, drop, Some, None, Ok, Err, sym, refl, ap, ◌∙◌, ap₂, arith, rules}
+use Rattle.std.proofs.Common.{◌≡◌, ◌+◌, ◌-◌, ◌≤◌, eqb, [], map, length, take, Some, None, Ok, Err, sym, ap, ◌∙◌, ap₂, arith}
 use Rattle.std.proofs.lemmas.List.{at_drop_all}
 use Rattle.std.proofs.lemmas.Result.{err_from_is_err_and}
 use Rattle.records.specs.Circuits.{use_read}
 use Rattle.records.specs.Refusals.{unless}
 use Rattle.plainbook.specs.Findings.{form}
-use Rattle.plainbook.specs.Surveys.{names, runs, closed, last_node, begins, ends}
+use Rattle.plainbook.specs.Surveys.{names, runs, last_node}
 use Rattle.survey.specs.Books.{surveyed}
-use Rattle.survey.proofs.Walking.{one_ranged, chain_left, later, left_absent, left_twice, left_broken, left_next, left_start, left_over, runs_next}
+use Rattle.survey.proofs.Walking.{one_ranged, chain_left, later, left_absent, left_twice, left_broken, left_next, left_over, runs_next}
 use Rattle.survey.proofs.book.Book.chain.Goals as goal
 
 pub stretch-requires : goal.stretch-requires

@@ -1,4 +1,4 @@
-use Rattle.std.proofs.Common.{◌≡◌, ℕ, ◌-◌, ◌<◌, ◌≤◌, [], map, length, take, drop, is_some, Some, None, Ok, Err, sym, refl, ap, ◌∙◌, subst, arith, length-drop}
+use Rattle.std.proofs.Common.{◌-◌, [], map, length, take, drop, is_some, None, Err, sym, ap, ◌∙◌, arith, length-drop}
 use Rattle.std.proofs.lemmas.List.{take_rest}
 use Rattle.std.proofs.lemmas.Result.{err_from_is_err_and}
 use Rattle.records.specs.Circuits.{HeadRecord, circuit_record, circuit_read, head_of, use_read, use_unranged}
@@ -6,14 +6,14 @@ use Rattle.records.specs.Refusals.{first, unless}
 use Rattle.quantities.specs.Acceptance.{due_refusals}
 use Rattle.standards.specs.Acceptance.{form_refusals}
 use Rattle.plainbook.specs.Findings.{form}
-use Rattle.plainbook.specs.Refusals.{chain_refusals, join_refusals}
+use Rattle.plainbook.specs.Refusals.{chain_refusals}
 use Rattle.plainbook.specs.Surveys.{runs}
 use Rattle.survey.specs.Books.{surveyed}
 use Rattle.survey.specs.Numbered.{table}
 use Rattle.survey.specs.Standing.{standing_circuits}
 use Rattle.survey.proofs.Joining.{words_refused, number_taken, due_refused, chain_refused, to_form, uses_ranged, some_uses, few}
 use Rattle.survey.proofs.Outcomes.{was_refused, was_given}
-use Rattle.survey.proofs.Tables.{ordered, mapped_isSome}
+use Rattle.survey.proofs.Tables.{mapped_isSome}
 use Rattle.survey.proofs.book.Book.check_circuit.Goals as goal
 
 pub returns-in_err-head : goal.returns-in_err-head

@@ -1,4 +1,4 @@
-use Rattle.std.proofs.Common.{◌≡◌, is_some, Some, None, Ok, Err, sym, refl, ap, ◌∙◌}
+use Rattle.std.proofs.Common.{is_some, Ok, Err, sym, ap, ◌∙◌}
 use Rattle.std.proofs.lemmas.Result.{err_from_is_err_and}
 use Rattle.records.specs.Legs.{LegRecord, leg_record, leg_read}
 use Rattle.records.specs.Refusals.{first, unless}
@@ -9,7 +9,7 @@ use Rattle.survey.specs.Numbered.{table}
 use Rattle.survey.specs.Standing.{standing_legs}
 use Rattle.survey.proofs.Entering.{words_refused, measure_refused, observation_refused, number_taken, leg_entered}
 use Rattle.survey.proofs.Outcomes.{was_refused, was_given}
-use Rattle.survey.proofs.Tables.{ordered, mapped_isSome}
+use Rattle.survey.proofs.Tables.{mapped_isSome}
 use Rattle.survey.proofs.book.Book.new_leg.Goals as goal
 
 pub returns-in_err-leg : goal.returns-in_err-leg

@@ -1,12 +1,10 @@
-use Rattle.std.proofs.Common.{◌≡◌, ℕ, Some, None, Option, sym, refl, ap, ◌∙◌, subst}
+use Rattle.std.proofs.Common.{◌≡◌, Some, sym, refl, ap, ◌∙◌, subst}
 use Rattle.std.specs.Option.{option_map}
 use Rattle.records.specs.Circuits.{UseRecord, use_record, use_read}
 use Rattle.records.specs.Legs.{LegRecord, leg_record}
 use Rattle.records.proofs.Circuits.{read_is}
 use Rattle.plainbook.specs.Surveys.{begins, ends}
 use Rattle.survey.specs.Books.{surveyed}
-use Rattle.survey.specs.Numbered.{table}
-use Rattle.survey.proofs.Tables.{ordered}
 use Rattle.survey.proofs.book.Book.stretch.Goals as goal
 
 pub returns-in_default-get : goal.returns-in_default-get

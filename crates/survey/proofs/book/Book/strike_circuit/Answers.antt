@@ -1,4 +1,4 @@
-use Rattle.std.proofs.Common.{◌≡◌, is_some, [], Some, None, sym, refl, ap, ◌∙◌, subst}
+use Rattle.std.proofs.Common.{is_some, [], Some, None, sym, refl, ap, ◌∙◌, subst}
 use Rattle.records.specs.Circuits.{circuit_record}
 use Rattle.std.specs.BTreeMap.{Updates}
 use Rattle.std.specs.Ordering.{nat_cmp}
@@ -9,7 +9,7 @@ use Rattle.plainbook.proofs.Invariant.{strike_circuit_sound}
 use Rattle.survey.specs.Books.{plain_book, surveyed, is_done}
 use Rattle.survey.specs.Numbered.{table}
 use Rattle.survey.specs.Standing.{own_circuit}
-use Rattle.survey.proofs.Tables.{ordered, mapped_isSome, numbered_removed, every_removed}
+use Rattle.survey.proofs.Tables.{mapped_isSome, numbered_removed, every_removed}
 use Rattle.survey.proofs.Outcomes.{refuses_always, answers_always, was_given}
 use Rattle.survey.proofs.Soundness.{sound, chained, read_sets}
 use Rattle.survey.proofs.Strikes.{circuit_absent, circuit_stands}

@@ -1,4 +1,4 @@
-use Rattle.std.proofs.Common.{◌≡◌, sym, ap, ◌∙◌, arith}
+use Rattle.std.proofs.Common.{sym, ap, ◌∙◌, arith}
 use Rattle.survey.proofs.Picks.{pick, pick_skip, pick_take}
 use Rattle.survey.proofs.Using.{among, uses_leg, among_more, among_here, among_none, user_is}
 use Rattle.survey.proofs.book.Book.user_of.Goals as goal

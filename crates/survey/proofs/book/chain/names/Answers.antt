@@ -1,5 +1,4 @@
-use Rattle.std.proofs.Common.{◌≡◌, ◌%◌, ◌^◌, get_or, sym, ◌∙◌, arith}
-use Rattle.records.specs.Words.{bits, payload}
+use Rattle.std.proofs.Common.{sym, ◌∙◌}
 use Rattle.survey.proofs.Naming.{named_here, named_later, named_never, low_byte}
 use Rattle.survey.proofs.book.chain.names.Goals as goal
 
