@@ -5,7 +5,7 @@ use Rattle.std.specs.declared.alloc.Global.{Global}
 use Rattle.std.specs.BTreeMap.{keys, values}
 use Rattle.std.specs.List.{range_with_len, flat_map}
 use Rattle.std.specs.Option.{option_map, option_to_list}
-use Rattle.std.proofs.lemmas.List.{append-nil, length-append, nil_from_length}
+use Rattle.std.proofs.lemmas.List.{append-nil, length-append}
 use Rattle.std.proofs.lemmas.Bool.{eqb-true}
 use Rattle.records.specs.declared.circuit.Circuit.{Circuit}
 use Rattle.records.specs.declared.leg.Leg.{Leg}
@@ -25,7 +25,7 @@ use Rattle.survey.specs.Books.{surveyed}
 use Rattle.survey.specs.Numbered.{Numbered, table, every}
 use Rattle.survey.specs.Standing.{own_leg, own_circuit}
 use Rattle.listing.specs.Writing.{put}
-use Rattle.survey.proofs.Orders.{vals_stand, few_keys}
+use Rattle.survey.proofs.Orders.{vals_stand, few_values}
 use Rattle.survey.proofs.Tables.{every_at, ordered}
 use Rattle.listing.proofs.Writing.{put_put, put_none}
 
@@ -83,11 +83,11 @@ module _ {X : Type 0} (list : X → List ℕ) where
         words = ap₂ (λ n v. put n (flat_map list ys) v) is wrote ∙ put_put at (list x) (flat_map list ys) ws ∙ ap (λ l. put at (flat_map list l) ws) (sym turn) ∙ h.words;
       }
 
-  pub so_far_end : (left all : List X) (at start : ℕ) (ws before : List ℕ) → length left ≡ 0 → SoFar list left all at start ws before → at ≡ start + length (flat_map list all)
-  so_far_end left all at start ws before none h = omega (arith, h.end, ap (λ l. length (flat_map list l)) (nil_from_length left none))
+  pub so_far_end : (left all : List X) (at start : ℕ) (ws before : List ℕ) → left ≡ [] → SoFar list left all at start ws before → at ≡ start + length (flat_map list all)
+  so_far_end left all at start ws before none h = omega (arith, h.end, ap (λ l. length (flat_map list l)) none)
 
-  pub so_far_words : (left all : List X) (at start : ℕ) (ws before : List ℕ) → length left ≡ 0 → SoFar list left all at start ws before → ws ≡ put start (flat_map list all) before
-  so_far_words left all at start ws before none h = sym (put_none at ws) ∙ ap (λ l. put at (flat_map list l) ws) (sym (nil_from_length left none)) ∙ h.words
+  pub so_far_words : (left all : List X) (at start : ℕ) (ws before : List ℕ) → left ≡ [] → SoFar list left all at start ws before → ws ≡ put start (flat_map list all) before
+  so_far_words left all at start ws before none h = sym (put_none at ws) ∙ ap (λ l. put at (flat_map list l) ws) (sym none) ∙ h.words
 
 -- ---- a book's legs and circuits
 module _ {Q S Element : Type 0} (q : Terms Element) (s : Rules) (b : Book Q S) (k : Class) where
@@ -109,11 +109,11 @@ module _ {Q S Element : Type 0} (q : Terms Element) (s : Rules) (b : Book Q S) (
 
   pub legs_few : length (flat_map leg_listing (values b.legs)) ≤ 32640
   legs_few =
-      omega (arith, joined_few s.legs k leg_place (λ l. l.number.value) leg_record (leg_finding q) (values b.legs), few_keys 128 b.legs b.legs_numbered, (ordered 128 b.legs b.legs_numbered).0)
+      omega (arith, joined_few s.legs k leg_place (λ l. l.number.value) leg_record (leg_finding q) (values b.legs), few_values 128 b.legs b.legs_numbered)
 
   pub circuits_few : length (flat_map circuit_listing (values b.circuits)) ≤ 8160
   circuits_few =
-      omega (arith, joined_few s.circuits k circuit_place (λ c. c.number.value) circuit_record (circuit_finding q (surveyed b)) (values b.circuits), few_keys 32 b.circuits b.circuits_numbered, (ordered 32 b.circuits b.circuits_numbered).0)
+      omega (arith, joined_few s.circuits k circuit_place (λ c. c.number.value) circuit_record (circuit_finding q (surveyed b)) (values b.circuits), few_values 32 b.circuits b.circuits_numbered)
 
   pub all_few : length (survey_misses q s (surveyed b) k) ≤ 41055
   all_few =

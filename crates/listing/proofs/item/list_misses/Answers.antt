@@ -26,7 +26,7 @@ loop-rule-preserved g c =
             | then-at-words v ↦
                 ap (put (at + 1) rest) v.words-is
                 ∙ put_one at _ rest ws (omega (arith, v.if-at-words.true))
-                ∙ ap (λ m. put at (m ∷ rest) ws) v.miss-word.ensures
+                ∙ ap (λ m. put at (m ∷ rest) ws) v.miss_word.ensures
             | else-at-words v ↦ ap (put (at + 1) rest) v.words-is ∙ put_past at _ rest ws (omega (arith, v.if-at-words.false))
           ] in (
             omega (arith, ap length step, w.at-is, c.loop-rule.invariant.0),
