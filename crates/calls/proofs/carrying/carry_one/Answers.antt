@@ -14,14 +14,14 @@ returns-in-Open g c =
 pub returns-in-StrikeLeg : goal.returns-in-StrikeLeg
 returns-in-StrikeLeg g c =
     let before = plain_book c.args.book.now in
-    subst (λ k. (reply_seen c.done-in-StrikeLeg.result ≡ outcome_seen (step g.Q.Quantity.meaning g.S.Standard.meaning (plain_call k) before)) × (plain_book c.strike-leg.new.self ≡ (step g.Q.Quantity.meaning g.S.Standard.meaning (plain_call k) before).held))
-    (sym c.in-StrikeLeg.is) (c.done-in-StrikeLeg.ensures ∙ seen_as c.strike-leg.ensures.0 (sym (words_kept before _ _ _ _)), c.strike-leg.ensures.1)
+    subst (λ k. (reply_seen c.done-in-StrikeLeg.result ≡ outcome_seen (step g.Q.Quantity.meaning g.S.Standard.meaning (plain_call k) before)) × (plain_book c.strike_leg.new.self ≡ (step g.Q.Quantity.meaning g.S.Standard.meaning (plain_call k) before).held))
+    (sym c.in-StrikeLeg.is) (c.done-in-StrikeLeg.ensures ∙ seen_as c.strike_leg.ensures.0 (sym (words_kept before _ _ _ _)), c.strike_leg.ensures.1)
 
 pub returns-in-StrikeCircuit : goal.returns-in-StrikeCircuit
 returns-in-StrikeCircuit g c =
     let before = plain_book c.args.book.now in
-    subst (λ k. (reply_seen c.done-in-StrikeCircuit.result ≡ outcome_seen (step g.Q.Quantity.meaning g.S.Standard.meaning (plain_call k) before)) × (plain_book c.strike-circuit.new.self ≡ (step g.Q.Quantity.meaning g.S.Standard.meaning (plain_call k) before).held))
-    (sym c.in-StrikeCircuit.is) (c.done-in-StrikeCircuit.ensures ∙ seen_as c.strike-circuit.ensures.0 (sym (words_kept before _ _ _ _)), c.strike-circuit.ensures.1)
+    subst (λ k. (reply_seen c.done-in-StrikeCircuit.result ≡ outcome_seen (step g.Q.Quantity.meaning g.S.Standard.meaning (plain_call k) before)) × (plain_book c.strike_circuit.new.self ≡ (step g.Q.Quantity.meaning g.S.Standard.meaning (plain_call k) before).held))
+    (sym c.in-StrikeCircuit.is) (c.done-in-StrikeCircuit.ensures ∙ seen_as c.strike_circuit.ensures.0 (sym (words_kept before _ _ _ _)), c.strike_circuit.ensures.1)
 
 pub returns-in-Enter : goal.returns-in-Enter
 returns-in-Enter g c =

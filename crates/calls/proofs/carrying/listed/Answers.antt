@@ -12,8 +12,8 @@ use Rattle.calls.proofs.carrying.listed.Goals.{in-Ok, in-Err}
 pub returns : goal.returns
 returns g c =
     let before = plain_book c.args.book.now in
-    let long : length c.misses.new.words ≡ c.args.words.len = omega (arith, c.misses.auto.words, ap length c.deref-mut.ensures.value, c.args.words.ok.0) in
+    let long : length c.misses.new.words ≡ c.args.words.len = omega (arith, c.misses.auto.words, ap length c.deref_mut.ensures.value, c.args.words.ok.0) in
     let shown : seen plain_answer c.match-misses.answer ≡ seen is_listed c.misses.result =
     elim c.match-misses.branch [ in-Ok w ↦ ap (seen plain_answer) w.answer-is ∙ sym (ap (seen is_listed) w.in-Ok.is) | in-Err w ↦ ap (seen plain_answer) w.answer-is ∙ sym (ap (seen is_listed) w.in-Err.is) ] in
-    seen_as (shown ∙ c.misses.ensures.answer.0 ∙ ap (λ ws. (step g.Q.Quantity.meaning g.S.Standard.meaning (listing c.args.class ws) before).answer) c.deref-mut.ensures.value)
-    (with_items_is c.args.words c.misses.new.words long ∙ c.misses.ensures.words ∙ ap (λ ws. (step g.Q.Quantity.meaning g.S.Standard.meaning (listing c.args.class ws) before).words) c.deref-mut.ensures.value)
+    seen_as (shown ∙ c.misses.ensures.answer.0 ∙ ap (λ ws. (step g.Q.Quantity.meaning g.S.Standard.meaning (listing c.args.class ws) before).answer) c.deref_mut.ensures.value)
+    (with_items_is c.args.words c.misses.new.words long ∙ c.misses.ensures.words ∙ ap (λ ws. (step g.Q.Quantity.meaning g.S.Standard.meaning (listing c.args.class ws) before).words) c.deref_mut.ensures.value)
