@@ -15,16 +15,16 @@ use survey::book::Book;
 
 // Legs entered and circuits joined, all of them accepted.
 fn filled<Q: Quantity + Drop, S: Standard + Drop>(
-    rt: &HostRuntime,
+    rt: &(impl Abort + AllocGlobal),
     book: &mut Book<Q, S>,
     legs: &[&[u32]],
     circuits: &[&[u32]],
 ) -> Result<(), Fail> {
     for words in legs {
-        assert_eq!(said(book.enter(words)), DONE);
+        assert_eq!(rt; said(book.enter(words)), DONE);
     }
     for words in circuits {
-        assert_eq!(said(book.join(rt.alloc(), words)), DONE);
+        assert_eq!(rt; said(book.join(rt.alloc(), words)), DONE);
     }
     Ok(())
 }
@@ -234,12 +234,12 @@ fn triangles(rt: HostRuntime) -> Result<(), Fail> {
 }
 
 fn add_triangle(
-    rt: &HostRuntime,
+    rt: &(impl Abort + AllocGlobal),
     book: &mut Book<Angles, TriangulationStandard>,
     index: u32,
     third: u32,
 ) -> Result<(), Fail> {
-    assert!(index < 2);
+    assert!(rt; index < 2);
     let circuit = index + 1;
     let leg = 3 * index + 1;
     let number = leg << 20;
