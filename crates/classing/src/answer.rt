@@ -4,7 +4,7 @@ use crate::classes::Graded;
 use crate::desk::Desk;
 use crate::forms::{Form, Names};
 use crate::judge::{Judgment, judge};
-use crate::listing::Listing;
+use crate::misses::{Listing, Said};
 use crate::show::{CircuitShown, LegShown, show_circuit, show_leg};
 use crate::surveys::Survey;
 use records::refusal::{Fault, Part, Reason, Refusal};
@@ -105,15 +105,36 @@ impl fmt::Display for Answer {
                 let (part, reason) = (part(refusal), reason(refusal));
                 write!(f, "refused {number} {part} {place}: {reason}")
             }
+            Answer::NotACall(_) => write!(f, "not a call"),
+            Answer::NoMemory => write!(f, "no memory"),
+        }
+    }
+}
+
+// An answer, with plain words behind it where it has none by itself.
+#[derive(Clone, Copy)]
+pub(crate) struct Told<'a> {
+    pub(crate) answer: &'a Answer,
+}
+
+impl<'a> fmt::Display for Told<'a> {
+    fn fmt<W: fmt::Write>(&self, f: &mut fmt::Formatter<W>) -> fmt::Result {
+        let answer = self.answer;
+        write!(f, "{answer}")?;
+        match answer {
+            Answer::Listed(listing) => {
+                let said = Said { listing };
+                write!(f, "{said}")
+            }
             Answer::NotACall(Some(form)) => {
                 let written = form.written();
-                write!(f, "not a call: write {written}")
+                write!(f, ": write {written}")
             }
             Answer::NotACall(None) => {
                 let names = Names;
-                write!(f, "not a call: the calls are {names}")
+                write!(f, ": the calls are {names}")
             }
-            Answer::NoMemory => write!(f, "no memory"),
+            _ => Ok(()),
         }
     }
 }

@@ -2,7 +2,7 @@
 use crate::answer::Answer;
 use crate::call::Ask;
 use crate::classes::Graded;
-use crate::listing::Listing;
+use crate::misses::Listing;
 use crate::surveys::Survey;
 use calls::call;
 use calls::call::{Call, Reply};

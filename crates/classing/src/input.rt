@@ -1,7 +1,8 @@
 // An input that an argument names, its lines answered.
-use crate::answer::{Answer, answer_to};
+use crate::answer::{Answer, Told, answer_to};
 use crate::desk::Desk;
 use crate::line::Line;
+use crate::manner::Manner;
 use crate::usage::Usage;
 use std::io::{BufRead, BufReader, Read};
 use std::{fs, io};
@@ -30,12 +31,12 @@ impl<'a> Input<'a> {
         }
     }
 
-    pub(crate) fn answer(self, rt: &HostRuntime) -> io::Result<()> {
+    pub(crate) fn answer(self, rt: &HostRuntime, manner: Manner) -> io::Result<()> {
         match self {
             Input::Help => tell_usage(rt),
-            Input::Standard => answer_lines(rt, self.name(), rt.stdin()),
+            Input::Standard => answer_lines(rt, manner, self.name(), rt.stdin()),
             Input::File(name) => match fs::open(rt, name) {
-                Ok(file) => answer_lines(rt, name, file),
+                Ok(file) => answer_lines(rt, manner, name, file),
                 Err(error) => {
                     let usage = Usage;
                     eprintln!(rt; "classing: {name} cannot be opened: {error}\n{usage}")?;
@@ -51,17 +52,22 @@ fn tell_usage(rt: &HostRuntime) -> io::Result<()> {
     println!(rt; "{usage}")
 }
 
-// Answers the lines of an input, with a desk of its own; where there is no byte, tells how the program is used.
-fn answer_lines<R: Read + Drop>(rt: &HostRuntime, name: &str, input: R) -> io::Result<()> {
+// Answers the lines of an input, with a desk of its own; in words, an input with no byte is told how the program is used.
+fn answer_lines<R: Read + Drop>(
+    rt: &HostRuntime,
+    manner: Manner,
+    name: &str,
+    input: R,
+) -> io::Result<()> {
     let mut input = BufReader::new(rt.alloc(), input)?;
     let mut bytes = Vec::new(rt.alloc());
     let mut desk = Desk::new(rt.alloc());
     for line in 0..u64::MAX {
         bytes.clear();
         match input.read_until(b'\n', &mut bytes) {
-            Ok(0) if line == 0 => return tell_usage(rt),
+            Ok(0) if line == 0 && matches!(manner, Manner::Words) => return tell_usage(rt),
             Ok(0) => break,
-            Ok(_) => answer_line(rt, &mut desk, bytes.as_slice())?,
+            Ok(_) => answer_line(rt, manner, &mut desk, bytes.as_slice())?,
             Err(error) => {
                 eprintln!(rt; "classing: {name} cannot be read: {error}")?;
                 return Err(error);
@@ -71,11 +77,17 @@ fn answer_lines<R: Read + Drop>(rt: &HostRuntime, name: &str, input: R) -> io::R
     Ok(())
 }
 
-fn answer_line(rt: &HostRuntime, desk: &mut Desk, bytes: &[u8]) -> io::Result<()> {
+fn answer_line(rt: &HostRuntime, manner: Manner, desk: &mut Desk, bytes: &[u8]) -> io::Result<()> {
     let (text, answer) = match Line::read(bytes) {
         Line::Nothing => return Ok(()),
         Line::Unreadable => ("(unreadable line)", Answer::NotACall(None)),
         Line::Text(text) => (text, answer_to(rt.alloc(), desk, text)),
     };
-    println!(rt; "{text} -> {answer}")
+    match manner {
+        Manner::Letter => println!(rt; "{text} -> {answer}"),
+        Manner::Words => {
+            let told = Told { answer: &answer };
+            println!(rt; "{text} -> {told}")
+        }
+    }
 }

@@ -1,4 +1,4 @@
-// Classing: answers the calls in the inputs that its arguments name, or on standard input.
+// Classing: answers the calls in the inputs that its arguments name, or on standard input; to the letter, or with plain words behind.
 #![tactic(auto)]
 
 mod answer;
@@ -9,7 +9,8 @@ mod forms;
 mod input;
 mod judge;
 mod line;
-mod listing;
+mod manner;
+mod misses;
 mod rules;
 mod show;
 mod surveys;
@@ -17,6 +18,7 @@ mod units;
 mod usage;
 
 use input::Input;
+use manner::Manner;
 use std::env::Args;
 use std::{env, io};
 
@@ -35,18 +37,24 @@ fn arguments(rt: &HostRuntime) -> io::Result<Args> {
 }
 
 fn main(rt: HostRuntime) -> io::Result<()> {
-    let arguments = arguments(&rt)?;
-    let count = arguments.len();
-    if count == 0 {
-        return Input::Standard.answer(&rt);
+    let mut manner = Manner::Letter;
+    let mut names = Vec::new(rt.alloc());
+    for argument in arguments(&rt)? {
+        match Manner::named(argument.as_str()) {
+            Some(named) => manner = named,
+            None => names.push(argument)?,
+        }
     }
-    for argument in arguments {
+    if names.is_empty() {
+        return Input::Standard.answer(&rt, manner);
+    }
+    for argument in names.iter() {
         let input = Input::of(argument.as_str());
-        if count > 1 {
+        if names.len() > 1 {
             let name = input.name();
             println!(rt; "# {name}")?;
         }
-        input.answer(&rt)?;
+        input.answer(&rt, manner)?;
     }
     Ok(())
 }

@@ -5,8 +5,9 @@ use std::fmt;
 #[derive(Clone, Copy)]
 pub(crate) struct Usage;
 
-const INPUTS: &str = "usage: classing [FILE..]
-Answers the calls in each FILE, one to a line. Standard input is read for - and where no FILE is given.";
+const INPUTS: &str = "usage: classing [--words] [FILE..]
+Answers the calls in each FILE, one to a line. Standard input is read for - and where no FILE is given.
+With --words, plain words for a person follow behind misses and behind a line that is no call.";
 
 const WORDS: &str =
     "A WORD has one to eight hexadecimal digits. CLASS and N are decimal; for misses N is at most 65535.

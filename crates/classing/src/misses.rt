@@ -105,8 +105,20 @@ impl fmt::Display for Listing {
         for word in self.words.iter() {
             write!(f, " {word:08X}")?;
         }
+        Ok(())
+    }
+}
+
+// What the words say, behind them.
+#[derive(Clone, Copy)]
+pub(crate) struct Said<'a> {
+    pub(crate) listing: &'a Listing,
+}
+
+impl<'a> fmt::Display for Said<'a> {
+    fn fmt<W: fmt::Write>(&self, f: &mut fmt::Formatter<W>) -> fmt::Result {
         let mut before = ": ";
-        for miss in self.misses.iter() {
+        for miss in self.listing.misses.iter() {
             write!(f, "{before}{miss}")?;
             before = "; ";
         }
