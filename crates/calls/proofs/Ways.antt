@@ -1,17 +1,16 @@
 -- Calls carried out one after another. Assumes nothing.
-use Rattle.std.proofs.Common.{◌≡◌, ℕ, suc, ◌+◌, ◌<◌, ◌≤◌, List, [], ◌∷◌, ◌++◌, map, length, take, drop, Some, None, Ok, Err, Option, Result, sym, refl, ap, ◌∙◌, subst, ap₂, arith}
+use Rattle.std.proofs.Common.{◌≡◌, ℕ, suc, ◌+◌, List, [], ◌∷◌, ◌++◌, map, length, take, Some, None, Ok, Err, Option, Result, sym, refl, ap, ◌∙◌, ap₂, arith}
 use Rattle.std.proofs.lemmas.List.{length-append, length-map, map-append, append_assoc, take_at}
 use Rattle.std.specs.declared.alloc.AllocError.{AllocError}
 use Rattle.records.specs.declared.refusal.Refusal.{Refusal}
 use Rattle.records.specs.declared.refusal.Fault.{Fault}
 use Rattle.records.specs.declared.refusal.Fault.TheVariants.{Refused, Memory}
-use Rattle.records.specs.Refusals.{seen}
 use Rattle.quantities.specs.Terms.{Terms}
 use Rattle.standards.specs.Rules.{Rules}
 use Rattle.plainbook.specs.Steps as plain
 use Rattle.plainbook.specs.Steps.{Held, Outcome, outcomes, run, step, unless_refused}
 use Rattle.plainbook.specs.Surveys.{Survey}
-use Rattle.survey.specs.Books.{is_done, Answers}
+use Rattle.survey.specs.Books.{Answers}
 use Rattle.calls.specs.Carrying.{Seen, reply_seen, replied, fault_seen, outcome_seen, plain_call, Carried, CarriedOut}
 use Rattle.calls.specs.declared.call.Call.{Call}
 use Rattle.calls.specs.declared.call.Reply.{Reply}

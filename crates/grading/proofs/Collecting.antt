@@ -1,16 +1,14 @@
 -- Findings collected, one for each value of a map. Assumes nothing.
-use Rattle.std.proofs.Common.{◌≡◌, ℕ, ◌+◌, ◌-◌, ◌^◌, ◌≤◌, min, Bool, true, false, cond, List, [], ◌∷◌, ◌++◌, map, length, Option, sym, refl, ap, ◌∙◌, append_assoc, append-nil, arith}
+use Rattle.std.proofs.Common.{◌≡◌, ℕ, ◌+◌, ◌-◌, ◌^◌, ◌≤◌, min, cond, List, [], ◌∷◌, ◌++◌, map, sym, refl, ap, ◌∙◌, append_assoc, append-nil, arith}
 use Rattle.std.specs.BTreeMap.{BTreeMap}
 use Rattle.std.specs.BTreeMap.{values}
 use Rattle.std.specs.List.{range_with_len}
 use Rattle.std.specs.Option.{option_map}
-use Rattle.std.proofs.lemmas.List.{nil_from_length}
 use Rattle.records.specs.declared.circuit.Circuit.{Circuit}
 use Rattle.records.specs.Circuits.{circuit_record}
 use Rattle.records.specs.Legs.{leg_record}
 use Rattle.quantities.specs.Terms.{Terms}
 use Rattle.standards.specs.declared.finding.CircuitFinding.{CircuitFinding}
-use Rattle.standards.specs.declared.finding.WholeFinding.{WholeFinding}
 use Rattle.standards.specs.Observed.{leg_finding}
 use Rattle.plainbook.specs.Findings.{circuit_finding, leg_findings, circuit_findings, closed_count, closure_sum, whole_finding}
 use Rattle.plainbook.specs.Surveys.{standing, leg_numbers, circuit_numbers}

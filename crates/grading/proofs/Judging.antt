@@ -1,8 +1,7 @@
 -- What grading answers. Assumes nothing.
-use Rattle.std.proofs.Common.{◌≡◌, ℕ, Bool, true, false, not, List, [], ◌∷◌, Some, None, Option, sym, refl, ap, ◌∙◌, subst}
+use Rattle.std.proofs.Common.{◌≡◌, ℕ, Bool, true, false, not, [], ◌∷◌, Some, None, Option, sym, refl, ap, ◌∙◌, subst}
 use mathlib.Core.Path.{fun_ext}
 use Rattle.records.specs.declared.refusal.Reason.TheVariants.{NoLeg, Loose}
-use Rattle.records.specs.declared.refusal.Refusal.{Refusal}
 use Rattle.records.specs.Refusals.{first, refusal}
 use Rattle.quantities.specs.Terms.{Terms}
 use Rattle.standards.specs.declared.class.Class.{Class}
@@ -10,7 +9,7 @@ use Rattle.standards.specs.declared.class_set.ClassSet.{ClassSet}
 use Rattle.standards.specs.Classes.{members, least}
 use Rattle.standards.specs.ClassSets.{holds}
 use Rattle.standards.specs.Rules.{Rules}
-use Rattle.plainbook.specs.Grades.{Grade, class_bits, met, grade}
+use Rattle.plainbook.specs.Grades.{class_bits, met, grade}
 use Rattle.plainbook.specs.Refusals.{refused_if, grade_refusals}
 use Rattle.plainbook.specs.Surveys.{Survey, any_leg, loose_leg}
 use Rattle.grading.specs.declared.grade.Grade.{Grade as Graded}

@@ -1,5 +1,5 @@
 -- A grade as the plain book's, and what it says of the classes that a survey has earned.
-use Rattle.std.specs.Prelude.{◌≡◌, Decides}
+use Rattle.std.specs.Prelude.{Decides}
 use Rattle.quantities.specs.Terms.{Terms}
 use Rattle.standards.specs.declared.class.Class.{Class}
 use Rattle.standards.specs.ClassSets.{holds}

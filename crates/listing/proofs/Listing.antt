@@ -1,5 +1,5 @@
 -- Rule by rule through an item's misses. Assumes nothing.
-use Rattle.std.proofs.Common.{◌≡◌, ℕ, suc, ◌+◌, ◌-◌, ◌<◌, ◌≤◌, Bool, true, false, cond, List, [], ◌∷◌, ◌++◌, length, sym, refl, ap, ◌∙◌, ap₂, add-one, arith}
+use Rattle.std.proofs.Common.{◌≡◌, ℕ, suc, ◌+◌, ◌-◌, ◌<◌, ◌≤◌, true, false, cond, List, [], ◌∷◌, sym, ap, ◌∙◌, add-one, arith}
 use Rattle.standards.specs.declared.class.Class.{Class}
 use Rattle.standards.specs.declared.finding.Directions.{Directions}
 use Rattle.standards.specs.NoWorse.{Kind}

@@ -1,11 +1,10 @@
 -- The misses of what stands in a map, one value after another. Assumes nothing.
-use Rattle.std.proofs.Common.{◌≡◌, ℕ, zero, suc, ◌+◌, ◌*◌, ◌<◌, ◌≤◌, Bool, true, false, cond, T, List, [], ◌∷◌, ◌++◌, map, length, Some, None, Option, sym, refl, ap, ◌∙◌, ap₂, arith}
+use Rattle.std.proofs.Common.{◌≡◌, ℕ, zero, suc, ◌+◌, ◌*◌, ◌≤◌, Bool, true, false, cond, T, List, [], ◌∷◌, ◌++◌, length, Some, None, Option, sym, refl, ap, ◌∙◌, ap₂, arith}
 use Rattle.std.specs.BTreeMap.{BTreeMap}
-use Rattle.std.specs.declared.alloc.Global.{Global}
-use Rattle.std.specs.BTreeMap.{keys, values}
+use Rattle.std.specs.BTreeMap.{values}
 use Rattle.std.specs.List.{range_with_len, flat_map}
 use Rattle.std.specs.Option.{option_map, option_to_list}
-use Rattle.std.proofs.lemmas.List.{append-nil, length-append}
+use Rattle.std.proofs.lemmas.List.{length-append}
 use Rattle.std.proofs.lemmas.Bool.{eqb-true}
 use Rattle.records.specs.declared.circuit.Circuit.{Circuit}
 use Rattle.records.specs.declared.leg.Leg.{Leg}
@@ -22,11 +21,11 @@ use Rattle.plainbook.specs.Misses.{miss_word, rule_misses, item_misses, misses_o
 use Rattle.plainbook.specs.Surveys.{standing, leg_numbers, circuit_numbers}
 use Rattle.survey.specs.declared.book.Book.{Book}
 use Rattle.survey.specs.Books.{surveyed}
-use Rattle.survey.specs.Numbered.{Numbered, table, every}
+use Rattle.survey.specs.Numbered.{Numbered, table}
 use Rattle.survey.specs.Standing.{own_leg, own_circuit}
 use Rattle.listing.specs.Writing.{put}
 use Rattle.survey.proofs.Orders.{vals_stand, few_values}
-use Rattle.survey.proofs.Tables.{every_at, ordered}
+use Rattle.survey.proofs.Tables.{every_at}
 use Rattle.listing.proofs.Writing.{put_put, put_none}
 
 passed : (b : Bool) → T b → b ≡ true

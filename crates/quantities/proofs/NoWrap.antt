@@ -1,5 +1,5 @@
 -- The sums of heights over a circuit's legs stay far below half of 2^64.
-use Rattle.std.proofs.Common.{◌≡◌, ℕ, ◌*◌, ◌^◌, ◌<◌, ◌≤◌, true, ◌&&◌, leb, List, [], ◌∷◌, map, length, ℤ, pos, neg_ℤ, nat_abs, Some, None, Option, refl, ap, ◌∙◌, arith, lit<, lit≤}
+use Rattle.std.proofs.Common.{◌≡◌, ℕ, ◌*◌, ◌<◌, ◌≤◌, true, ◌&&◌, leb, List, [], ◌∷◌, map, length, ℤ, pos, neg_ℤ, nat_abs, Some, None, Option, refl, ap, ◌∙◌, arith, lit<, lit≤}
 use borrow.Author.Differences.{ints}
 use lib.ListN.{length-map}
 use lib.Signed.{le_z}

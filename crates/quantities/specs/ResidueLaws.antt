@@ -1,5 +1,5 @@
 -- The laws of least residues, each for every modulus above zero.
-use Rattle.std.specs.Prelude.{◌≡◌, ℕ, zero, ◌+◌, ◌-◌, ◌%◌, ◌<◌, ◌⊎◌, ℤ, pos, negsuc}
+use Rattle.std.specs.Prelude.{◌≡◌, ℕ, ◌+◌, ◌-◌, ◌%◌, ◌<◌, ◌⊎◌, ℤ, pos, negsuc}
 use Rattle.std.proofs.Math.Path.{PathP}
 use Rattle.std.proofs.Common.{sym, ap, ◌∙◌, inl, inr, add_assoc, add_comm, add-zero, mod-lt, mod-eq_of_lt, arith}
 use mathlib.Core.HLevel.{is_prop→PathP}

@@ -1,22 +1,21 @@
 -- What decodes is what encoding gives back: circuits. Assumes nothing.
-use Rattle.std.proofs.Common.{◌≡◌, ℕ, zero, suc, ◌+◌, ◌*◌, ◌^◌, ◌<◌, ◌≤◌, Bool, true, false, cond, ◌&&◌, eqb, ltb, List, [], ◌∷◌, map, length, get_or, drop, replicate, Some, None, Ok, Option, sym, refl, ap, ◌∙◌, subst, ap₂, arith}
+use Rattle.std.proofs.Common.{◌≡◌, ℕ, zero, suc, ◌+◌, ◌*◌, ◌^◌, ◌<◌, ◌≤◌, Bool, true, false, cond, eqb, ltb, List, [], ◌∷◌, map, length, get_or, drop, replicate, Some, None, Ok, Option, sym, refl, ap, ◌∙◌, subst, ap₂, arith}
 use Rattle.std.proofs.lemmas.List.{length-map}
-use Rattle.std.proofs.lemmas.Bool.{and_parts, and_from, ltb-true, leb-true, lt-ltb, eq-eqb, eqb-true, eqb-false}
+use Rattle.std.proofs.lemmas.Bool.{and_parts, and_from, ltb-true, lt-ltb, eqb-true, eqb-false}
 use Rattle.records.specs.declared.circuit.Sense.{Sense}
 use Rattle.records.specs.declared.circuit.Sense.TheVariants.{Along, Against}
 use Rattle.records.specs.declared.refusal.Reason.TheVariants.{Layout, Range}
-use Rattle.records.specs.declared.refusal.Refusal.{Refusal}
 use Rattle.records.specs.declared.word.Kind.TheVariants as kinds
 use Rattle.records.specs.declared.word.Slot.{Slot}
-use Rattle.records.specs.Circuits.{CircuitRecord, UseRecord, sense_bit, use_word, use_read, use_ranged, use_unranged, head_ranged, circuit_words, circuit_read, circuit_unranged, circuit_decoded, circuit_fits, uses_fit, CircuitsReadBack}
+use Rattle.records.specs.Circuits.{CircuitRecord, UseRecord, sense_bit, use_word, use_read, use_ranged, use_unranged, head_ranged, circuit_words, circuit_read, circuit_decoded, circuit_fits, uses_fit, CircuitsReadBack}
 use Rattle.records.specs.Layouts.{misplaced, circuit_layout, must, may}
-use Rattle.records.specs.Ranges.{is_leg_number, is_circuit_number, is_leg_count, between}
+use Rattle.records.specs.Ranges.{is_leg_number, is_circuit_number, is_leg_count}
 use Rattle.records.specs.Refusals.{refusal, first, unless}
 use Rattle.records.specs.Words.{kind, kind_number, payload, word, bits}
-use Rattle.records.proofs.Circuits.{circuit_taken, three_up, counted}
+use Rattle.records.proofs.Circuits.{circuit_taken, counted}
 use Rattle.records.proofs.Layouts.{step, step_back, next}
 use Rattle.records.proofs.Ranges.{upto, from}
-use Rattle.records.proofs.Words.{kind_word, payload_word, word_is, payload_fits, high_fits}
+use Rattle.records.proofs.Words.{kind_word, payload_word, word_is, payload_fits}
 
 -- ---- one use
 sense_small : (s : Sense) → sense_bit s ≤ 1

@@ -1,14 +1,13 @@
 -- What decodes is what encoding gives back: legs. Assumes nothing.
-use Rattle.std.proofs.Common.{◌≡◌, ℕ, suc, ◌+◌, ◌*◌, ◌^◌, ◌<◌, ◌≤◌, Bool, true, false, cond, not, ◌&&◌, eqb, ltb, List, [], ◌∷◌, length, get_or, drop, Some, None, Ok, Err, Option, Result, sym, refl, ap, ◌∙◌, subst, ap₂, arith}
-use Rattle.std.proofs.lemmas.Bool.{and_parts, and_from, ltb-true, leb-true, lt-ltb, not-true}
+use Rattle.std.proofs.Common.{◌≡◌, ℕ, ◌^◌, ◌<◌, Bool, true, false, cond, ltb, List, [], ◌∷◌, drop, Some, None, Ok, Option, sym, refl, ap, ◌∙◌, subst, arith}
+use Rattle.std.proofs.lemmas.Bool.{and_parts, and_from, ltb-true, lt-ltb}
 use Rattle.records.specs.declared.refusal.Reason.TheVariants.{Layout, Range}
-use Rattle.records.specs.declared.refusal.Refusal.{Refusal}
 use Rattle.records.specs.declared.word.Kind.{Kind}
 use Rattle.records.specs.declared.word.Slot.{Slot}
 use Rattle.records.specs.declared.word.Kind.TheVariants as kinds
 use Rattle.records.specs.Layouts.{misplaced, leg_layout, must, may}
 use Rattle.records.specs.Legs.{LegRecord, leg_read, leg_words, back_words, back_read, leg_ranged, leg_fits, fits_back, leg_decoded, LegsReadBack}
-use Rattle.records.specs.Ranges.{is_leg_number, is_node, between}
+use Rattle.records.specs.Ranges.{is_leg_number, is_node}
 use Rattle.records.specs.Refusals.{refusal, first, unless}
 use Rattle.records.specs.Words.{kind, kind_number, payload, word, bits}
 use Rattle.records.proofs.Layouts.{step, step_back, next}

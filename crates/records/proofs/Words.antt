@@ -1,5 +1,5 @@
 -- Words, payloads and their fields. Assumes nothing.
-use Rattle.std.proofs.Common.{◌≡◌, ℕ, ◌+◌, ◌*◌, ◌/◌, ◌%◌, ◌^◌, ◌<◌, ◌≤◌, sym, refl, ap, ◌∙◌, ap₂, arith}
+use Rattle.std.proofs.Common.{◌≡◌, ℕ, ◌+◌, ◌*◌, ◌^◌, ◌<◌, arith}
 use Rattle.records.specs.declared.word.Kind.{Kind}
 use Rattle.records.specs.Words.{kind, kind_number, payload, word, bits}
 

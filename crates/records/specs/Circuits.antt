@@ -1,5 +1,5 @@
 -- A circuit's record: what it says, its words, and when words are refused.
-use Rattle.std.specs.Prelude.{◌≡◌, ℕ, zero, suc, ◌+◌, ◌*◌, ◌^◌, Bool, true, false, cond, ◌&&◌, List, [], ◌∷◌, map, length, drop, Some, None, Ok, Err, vec_items, Option, Result, MatchOption, ◌==◌, nat_lt, slice_index}
+use Rattle.std.specs.Prelude.{◌≡◌, ℕ, zero, suc, ◌+◌, ◌*◌, ◌^◌, Bool, true, false, cond, ◌&&◌, List, [], ◌∷◌, map, length, drop, Some, None, Ok, vec_items, Option, Result, MatchOption, ◌==◌, nat_lt, slice_index}
 use Rattle.std.specs.List.{slice_get}
 use Rattle.records.specs.declared.circuit.Circuit.{Circuit}
 use Rattle.records.specs.declared.circuit.Head.{Head}

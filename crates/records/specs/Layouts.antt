@@ -1,5 +1,5 @@
 -- Layouts: which kind of word stands at each index of a record.
-use Rattle.std.specs.Prelude.{◌≡◌, ℕ, suc, true, false, cond, List, [], ◌∷◌, ◌++◌, replicate, Some, None, Option, ◌==◌}
+use Rattle.std.specs.Prelude.{◌≡◌, ℕ, suc, true, false, cond, List, [], ◌∷◌, replicate, Some, None, Option, ◌==◌}
 use Rattle.std.specs.List.{slice_get}
 use Rattle.records.specs.declared.word.Kind.{Kind}
 use Rattle.records.specs.declared.word.Kind.TheVariants as kinds

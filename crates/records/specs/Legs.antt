@@ -1,5 +1,5 @@
 -- A leg's record: what it says, its words, and when words are refused.
-use Rattle.std.specs.Prelude.{◌≡◌, ℕ, ◌+◌, ◌*◌, ◌^◌, Bool, true, cond, not, ◌&&◌, List, [], ◌∷◌, drop, Some, None, Ok, Err, Option, Result, ◌==◌, nat_lt, slice_index}
+use Rattle.std.specs.Prelude.{◌≡◌, ℕ, ◌+◌, ◌*◌, ◌^◌, Bool, true, cond, not, ◌&&◌, List, [], ◌∷◌, drop, Some, None, Ok, Option, Result, ◌==◌, nat_lt, slice_index}
 use Rattle.std.specs.Option.{option_map}
 use Rattle.records.specs.declared.leg.Running.{Running}
 use Rattle.records.specs.declared.leg.Running.TheVariants.{Single, Double}
@@ -9,7 +9,6 @@ use Rattle.records.specs.declared.leg.Readings.{Readings}
 use Rattle.records.specs.declared.refusal.Reason.TheVariants.{Layout, Range}
 use Rattle.records.specs.declared.refusal.Refusal.{Refusal}
 use Rattle.records.specs.declared.word.Kind.TheVariants as kinds
-use Rattle.records.specs.declared.word.Payload.{Payload}
 use Rattle.records.specs.Layouts.{misplaced, leg_layout}
 use Rattle.records.specs.Ranges.{is_leg_number, is_node}
 use Rattle.records.specs.Refusals.{refusal, first, unless}

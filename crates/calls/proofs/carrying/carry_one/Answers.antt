@@ -1,7 +1,7 @@
-use Rattle.std.proofs.Common.{◌≡◌, vec_items, sym, refl, ap, ◌∙◌, subst, ap₂}
+use Rattle.std.proofs.Common.{◌≡◌, vec_items, sym, ◌∙◌, subst}
 use Rattle.plainbook.specs.Steps.{step, entering, joining}
 use Rattle.survey.specs.Books.{plain_book, Answers, is_done}
-use Rattle.calls.specs.Carrying.{Seen, Carried, plain_call, reply_seen, outcome_seen}
+use Rattle.calls.specs.Carrying.{Carried, plain_call, reply_seen, outcome_seen}
 use Rattle.calls.proofs.Ways.{seen_as, words_kept, carried, held_kept}
 use Rattle.calls.proofs.carrying.carry_one.Goals as goal
 

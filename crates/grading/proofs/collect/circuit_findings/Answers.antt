@@ -1,4 +1,4 @@
-use Rattle.std.proofs.Common.{◌≡◌, vec_items, sym, ◌∙◌}
+use Rattle.std.proofs.Common.{vec_items, sym, ◌∙◌}
 use Rattle.records.specs.Circuits.{circuit_record}
 use Rattle.plainbook.specs.Findings.{circuit_finding}
 use Rattle.survey.specs.Books.{surveyed}

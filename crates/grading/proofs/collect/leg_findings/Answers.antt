@@ -1,4 +1,4 @@
-use Rattle.std.proofs.Common.{◌≡◌, vec_items, sym, ◌∙◌}
+use Rattle.std.proofs.Common.{vec_items, sym, ◌∙◌}
 use Rattle.records.specs.Legs.{leg_record}
 use Rattle.standards.specs.Observed.{leg_finding}
 use Rattle.grading.proofs.Collecting.{map_turn, map_end, legs_found}

@@ -1,9 +1,8 @@
-use Rattle.std.proofs.Common.{◌≡◌, Some, refl, ap, ◌∙◌}
+use Rattle.std.proofs.Common.{Some, ap, ◌∙◌}
 use Rattle.std.specs.Option.{option_map}
 use Rattle.records.specs.Circuits.{circuit_record}
 use Rattle.plainbook.specs.Findings.{circuit_finding}
 use Rattle.survey.specs.Books.{surveyed}
-use Rattle.survey.proofs.Tables.{ordered}
 use Rattle.grading.proofs.findings.circuit_finding.Goals as goal
 
 pub returns-in-None : goal.returns-in-None

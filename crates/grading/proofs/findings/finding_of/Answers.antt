@@ -1,10 +1,9 @@
-use Rattle.std.proofs.Common.{◌≡◌, ◌+◌, drop, sym, refl, ap, ◌∙◌, subst, arith}
+use Rattle.std.proofs.Common.{◌+◌, drop, sym, ap, ◌∙◌, subst, arith}
 use Rattle.std.specs.Option.{option_map}
 use Rattle.records.specs.Legs.{leg_record}
 use Rattle.plainbook.specs.Findings.{joined, runs_finding}
 use Rattle.survey.specs.Standing.{standing_legs}
 use Rattle.grading.proofs.Running.{SoFar, runs_of, far_more, far_end, run_next, run_passed, no_run}
-use Rattle.survey.proofs.Tables.{ordered}
 use Rattle.grading.proofs.findings.finding_of.Goals as goal
 
 pub loop-used-preserved-in_default : goal.loop-used-preserved-in_default

@@ -1,8 +1,7 @@
-use Rattle.std.proofs.Common.{◌≡◌, Some, refl, ap, ◌∙◌}
+use Rattle.std.proofs.Common.{Some, ap, ◌∙◌}
 use Rattle.std.specs.Option.{option_map}
 use Rattle.records.specs.Legs.{leg_record}
 use Rattle.standards.specs.Observed.{leg_finding}
-use Rattle.survey.proofs.Tables.{ordered}
 use Rattle.grading.proofs.findings.leg_finding.Goals as goal
 
 pub returns-in-None : goal.returns-in-None

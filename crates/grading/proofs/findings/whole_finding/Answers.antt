@@ -1,9 +1,8 @@
-use Rattle.std.proofs.Common.{◌≡◌, ◌+◌, ◌≤◌, cond, map, length, sym, refl, ap, ◌∙◌, subst, add-zero, arith, rules}
+use Rattle.std.proofs.Common.{◌+◌, ◌≤◌, cond, map, length, sym, ap, ◌∙◌, subst, add-zero, arith, rules}
 use Rattle.std.specs.BTreeMap.{values}
 use Rattle.plainbook.specs.Findings.{whole_finding}
 use Rattle.grading.proofs.Collecting.{Counted, counted_turn, counted_all, circuits_found, circuit_shown}
 use Rattle.survey.proofs.Orders.{few_values}
-use Rattle.survey.proofs.Tables.{ordered}
 use Rattle.grading.proofs.findings.whole_finding.Goals as goal
 use Rattle.grading.proofs.findings.whole_finding.Goals.{then-finding, else-finding}
 

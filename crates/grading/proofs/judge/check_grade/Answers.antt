@@ -1,4 +1,4 @@
-use Rattle.std.proofs.Common.{◌≡◌, not, length, Some, None, Err, sym, ap, ◌∙◌}
+use Rattle.std.proofs.Common.{not, length, Some, None, Err, sym, ap, ◌∙◌}
 use Rattle.std.proofs.lemmas.Bool.{eq-eqb, ne_eqb, false≢true}
 use Rattle.records.specs.Refusals.{unless}
 use Rattle.survey.specs.Books.{surveyed}

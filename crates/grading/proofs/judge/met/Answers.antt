@@ -1,4 +1,4 @@
-use Rattle.std.proofs.Common.{◌≡◌, ◌&&◌, ◌∙◌, ap₂}
+use Rattle.std.proofs.Common.{◌&&◌, ◌∙◌, ap₂}
 use Rattle.grading.proofs.judge.met.Goals as goal
 
 pub returns : goal.returns

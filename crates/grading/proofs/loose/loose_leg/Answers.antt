@@ -1,6 +1,5 @@
-use Rattle.std.proofs.Common.{◌≡◌, not, sym, ap, ◌∙◌, arith}
+use Rattle.std.proofs.Common.{not, sym, ap, ◌∙◌, arith}
 use Rattle.std.specs.BTreeMap.{values}
-use Rattle.std.proofs.lemmas.List.{nil_from_length}
 use Rattle.survey.proofs.Picks.{pick_key, key_skip, key_take}
 use Rattle.survey.proofs.Using.{among, used_in, unused_in, among_more, among_here, among_none, loose_is, used_skip, used_here}
 use Rattle.grading.proofs.loose.loose_leg.Goals as goal

@@ -1,4 +1,4 @@
-use Rattle.std.proofs.Common.{◌≡◌, ◌+◌, length, Some, sym, ap, ◌∙◌, arith}
+use Rattle.std.proofs.Common.{◌+◌, length, Some, ap, ◌∙◌, arith}
 use Rattle.plainbook.specs.Misses.{item_misses, leg_misses, circuit_misses, whole_misses, whole_place}
 use Rattle.survey.specs.Books.{surveyed}
 use Rattle.listing.specs.Writing.{put}

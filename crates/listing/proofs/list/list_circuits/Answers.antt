@@ -1,4 +1,4 @@
-use Rattle.std.proofs.Common.{◌≡◌, ◌+◌, length, Some, sym, ap, ◌∙◌, arith}
+use Rattle.std.proofs.Common.{◌+◌, length, Some, sym, ap, ◌∙◌, arith}
 use Rattle.std.specs.BTreeMap.{values}
 use Rattle.plainbook.specs.Misses.{item_misses, circuit_place}
 use Rattle.listing.specs.Writing.{put}

@@ -1,8 +1,7 @@
-use Rattle.std.proofs.Common.{◌≡◌, ◌≤◌, length, Some, sym, refl, ap, ◌∙◌, arith, rules}
+use Rattle.std.proofs.Common.{◌≤◌, length, Some, sym, ap, ◌∙◌, arith, rules}
 use Rattle.std.proofs.lemmas.Bool.{lt-ltb, le-ltb}
 use Rattle.std.proofs.lemmas.Result.{err_from_is_err_and}
 use Rattle.survey.specs.Books.{plain_book, surveyed}
-use Rattle.listing.specs.Answered.{is_listed}
 use Rattle.listing.proofs.Listed.{no_class, not_graded, too_few, enough, refused, given}
 use Rattle.survey.proofs.Outcomes.{was_refused, was_given}
 use Rattle.listing.proofs.Tallies.{all_few}

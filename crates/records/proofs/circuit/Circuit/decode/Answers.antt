@@ -1,10 +1,10 @@
-use Rattle.std.proofs.Common.{◌≡◌, is_ok, Ok, vec_items, vec_len, sym, ap, ◌∙◌, arith}
+use Rattle.std.proofs.Common.{is_ok, Ok, vec_items, vec_len, ap, ◌∙◌}
 use Rattle.std.proofs.lemmas.List.{take_rest}
 use Rattle.std.proofs.lemmas.Result.{err_from_is_err_and}
 use Rattle.records.specs.Circuits.{circuit_read, use_unranged}
 use Rattle.records.specs.Refusals.{unless}
 use Rattle.records.proofs.circuit.Circuit.decode.Goals as goal
-use Rattle.records.proofs.Circuits.{head_laid, seen_err, seen_ok, three_up, legs_counted, least_unranged, circuit_same}
+use Rattle.records.proofs.Circuits.{head_laid, seen_err, seen_ok, legs_counted, least_unranged, circuit_same}
 
 pub returns-in_err-number : goal.returns-in_err-number
 returns-in_err-number c =
