@@ -1,6 +1,6 @@
 -- Gathering: the classes that every rule meets on every finding, and what the law says of whole lists of findings.
 use Rattle.std.specs.Prelude.{◌≡◌, ℕ, zero, suc, ◌<◌, Bool, true, false, ◌&&◌, List, [], ◌∷◌, length, Decides}
-use Rattle.std.specs.List.{AllZip, HoldsAt, AllByRecursion as All}
+use Rattle.std.specs.List.{AllZip, HoldsAt, AllByRecursion}
 use Rattle.standards.specs.declared.class.Class.{Class}
 use Rattle.standards.specs.declared.finding.Directions.{Directions}
 use Rattle.standards.specs.NoWorse.{Kind, NoWorse, Preorder}
@@ -18,7 +18,7 @@ module _ {Finding : Type 0} {kind : Kind Finding} {better : Directions} (table :
 
   -- every rule meets the class on every finding
   abbrev pub AllMeet : List Finding → Class → Type 0
-  AllMeet fs k = All (λ f. (rule : ℕ) → rule < table.count → table.meets rule f k ≡ true) fs
+  AllMeet fs k = AllByRecursion (λ f. (rule : ℕ) → rule < table.count → table.meets rule f k ≡ true) fs
 
   -- the classes held are those that every rule meets on every finding
   pub record Gathered (fs : List Finding) (held : Class → Bool) : Type 0 where
