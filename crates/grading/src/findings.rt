@@ -27,7 +27,7 @@ fn joined(first: Running, second: Running) -> Running
 
 // What a leg adds to a circuit: opposite where it is run against.
 fn contribution<Q: Quantity>(quantity: &Q, leg: &Leg, sense: Sense) -> Q::Element
-    ensures { result ≡ contribution (Q.Quantity.meaning quantity.now) (record { leg = leg_record leg.entry.now; sense = sense }) }
+    ensures { result ≡ contribution (Q.Quantity.meaning quantity.now) (record { leg = leg_record leg.now; sense = sense }) }
 {
     let along = quantity.contribution(leg.value, leg.back);
     match sense {

@@ -28,7 +28,7 @@ impl Path {
     // The path with one leg more.
     pub(crate) fn follow(self, leg: &Leg, sense: Sense) -> Path
         requires { self.legs < 255 }
-        ensures { result ≡ followed self (record { leg = leg_record leg.entry.now; sense = sense }) }
+        ensures { result ≡ followed self (record { leg = leg_record leg.now; sense = sense }) }
     {
         let begun = match self.nodes {
             None => begins(leg, sense),
