@@ -17,7 +17,7 @@ use Rattle.standards.specs.NoWorse.{Kind, NoWorse, leg_kind, circuit_kind}
 use Rattle.standards.specs.Triangulation.{triangulation_rules}
 use Rattle.standards.specs.Observed.{leg_finding}
 use Rattle.standards.proofs.Orders.{preorder}
-use Rattle.plainbook.specs.Examples.{up, down, along, against, circuit, OneWay, first_book, renumbered_book, elsewhere_book, turned_book, mixed_book, closer_book, better_book, corner, corners, triangle, turned_triangle, book, OtherwiseWritten, LevelEnds, LevelRewritten, NoWorseBook, Examples}
+use Rattle.plainbook.specs.Examples.{up, down, along, against, circuit, LevelWay, first_book, renumbered_book, elsewhere_book, turned_book, mixed_book, closer_book, better_book, corner, triangle, turned_triangle, triangle_book, RewrittenUnder, OtherwiseWritten, LevelEnds, NoWorseBook, Examples}
 use Rattle.plainbook.specs.Findings.{circuit_finding}
 use Rattle.plainbook.specs.Grades.{grade}
 use Rattle.plainbook.specs.Promise.{Pairing, leg_item, circuit_item}
@@ -166,7 +166,7 @@ first_leg (Some c) = first_named c.legs
 abbrev told : Survey → ℕ
 told p = first_leg (p.circuits 1)
 
-from_first : (w : OneWay) (p : Survey) → LevelEnds w p → Rewriting heights_terms (plain round) p → (told p ≡ 1 → ⊥) → LevelRewritten first_book w
+from_first : (w : LevelWay) (p : Survey) → LevelEnds w p → Rewriting heights_terms (plain round) p → (told p ≡ 1 → ⊥) → OtherwiseWritten first_book w
 unfolding leg_numbers circuit_numbers
 from_first w p ends rewriting d =
     record {
@@ -186,7 +186,7 @@ three_angles =
 due_turned : angles_terms.due 64799900 ≡ angles_terms.opposite (angles_terms.due 64800100)
 due_turned = same_angle (angles_terms.due 64799900) (angles_terms.opposite (angles_terms.due 64800100)) refl
 
-triangle_turned : OtherwiseWritten angles_terms triangulation_rules (book corners triangle) (book corners turned_triangle)
+triangle_turned : RewrittenUnder angles_terms triangulation_rules (triangle_book triangle) (triangle_book turned_triangle)
 unfolding leg_numbers circuit_numbers
 triangle_turned =
     record {
@@ -227,7 +227,7 @@ module _ (z : ℕ) (smaller : (leg_shown z).misclosure < (leg_shown 350).misclos
       (item_entered circuit_kind level_rules.directions (circuit_finding heights_terms (with_misclosure 350)) (circuit_finding heights_terms (with_misclosure z)) (λ _. None) (λ _. None) (λ _. tt) 1 round round
       (record { sizes = (closer, (summed, tt)); a = lit≤ tt; b = lit≤ tt; c = lit≤ tt; others = refl }))
 
-  no_worse_than_first : (w : OneWay) (new : Class) → LevelEnds w (with_misclosure z) → (grade heights_terms level_rules (with_misclosure z)).best ≡ Some new → NoWorseBook first_book w Second new
+  no_worse_than_first : (w : LevelWay) (new : Class) → LevelEnds w (with_misclosure z) → (grade heights_terms level_rules (with_misclosure z)).best ≡ Some new → NoWorseBook first_book w Second new
   unfolding leg_numbers circuit_numbers
   no_worse_than_first w new ends best =
       record {

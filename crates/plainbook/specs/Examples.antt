@@ -55,44 +55,45 @@ against n = record { leg = n; sense = Against }
 abbrev pub circuit : (number : ℕ) → List UseRecord → CircuitRecord
 circuit number legs = record { number = number; due = 0; legs = legs }
 
--- ---- books: legs entered and a circuit joined, under one quantity and one standard
-abbrev pub OneWay : Type 0
-OneWay = Way (Unit {0}) (Unit {0})
+-- ---- books: two legs entered and a circuit joined
+abbrev pub LevelWay : Type 0
+LevelWay = Way (Unit {0}) (Unit {0})
 
-abbrev pub entries : List LegRecord → CircuitRecord → List (Call (Unit {0}) (Unit {0}))
-entries [] c = joining (circuit_words c) ∷ []
-entries (l ∷ ls) c = entering (leg_words l) ∷ entries ls c
-
-abbrev pub book : List LegRecord → CircuitRecord → OneWay
-book legs c = record { quantity = tt; standard = tt; calls = entries legs c }
+abbrev pub book : (l m : LegRecord) → CircuitRecord → LevelWay
+book l m c =
+    record {
+      quantity = tt;
+      standard = tt;
+      calls = entering (leg_words l) ∷ entering (leg_words m) ∷ joining (circuit_words c) ∷ [];
+    }
 
 -- leg 1 has a misclosure of 3.50 mm
-abbrev pub first_book : OneWay
-first_book = book (up 1 350 ∷ down 2 ∷ []) (circuit 1 (along 1 ∷ along 2 ∷ []))
+abbrev pub first_book : LevelWay
+first_book = book (up 1 350) (down 2) (circuit 1 (along 1 ∷ along 2 ∷ []))
 
 -- the legs as 11 and 12, the circuit as 5
-abbrev pub renumbered_book : OneWay
-renumbered_book = book (up 11 350 ∷ down 12 ∷ []) (circuit 5 (along 11 ∷ along 12 ∷ []))
+abbrev pub renumbered_book : LevelWay
+renumbered_book = book (up 11 350) (down 12) (circuit 5 (along 11 ∷ along 12 ∷ []))
 
 -- the circuit begun at bench mark 2
-abbrev pub elsewhere_book : OneWay
-elsewhere_book = book (up 1 350 ∷ down 2 ∷ []) (circuit 1 (along 2 ∷ along 1 ∷ []))
+abbrev pub elsewhere_book : LevelWay
+elsewhere_book = book (up 1 350) (down 2) (circuit 1 (along 2 ∷ along 1 ∷ []))
 
 -- the circuit turned round
-abbrev pub turned_book : OneWay
-turned_book = book (up 1 350 ∷ down 2 ∷ []) (circuit 1 (against 2 ∷ against 1 ∷ []))
+abbrev pub turned_book : LevelWay
+turned_book = book (up 1 350) (down 2) (circuit 1 (against 2 ∷ against 1 ∷ []))
 
 -- begun elsewhere, turned round and renumbered
-abbrev pub mixed_book : OneWay
-mixed_book = book (up 11 350 ∷ down 12 ∷ []) (circuit 5 (against 11 ∷ against 12 ∷ []))
+abbrev pub mixed_book : LevelWay
+mixed_book = book (up 11 350) (down 12) (circuit 5 (against 11 ∷ against 12 ∷ []))
 
 -- leg 1 with a misclosure of 3.01 mm
-abbrev pub closer_book : OneWay
-closer_book = book (up 1 301 ∷ down 2 ∷ []) (circuit 1 (along 1 ∷ along 2 ∷ []))
+abbrev pub closer_book : LevelWay
+closer_book = book (up 1 301) (down 2) (circuit 1 (along 1 ∷ along 2 ∷ []))
 
 -- leg 1 with a misclosure of 3.00 mm
-abbrev pub better_book : OneWay
-better_book = book (up 1 300 ∷ down 2 ∷ []) (circuit 1 (along 1 ∷ along 2 ∷ []))
+abbrev pub better_book : LevelWay
+better_book = book (up 1 300) (down 2) (circuit 1 (along 1 ∷ along 2 ∷ []))
 
 -- ---- a triangle, in 0.01 seconds of arc
 -- an angle of a triangle, in 16 positions
@@ -120,25 +121,29 @@ triangle = record { number = 1; due = 64800100; legs = along 1 ∷ along 2 ∷ a
 abbrev pub turned_triangle : CircuitRecord
 turned_triangle = record { number = 1; due = 64799900; legs = against 3 ∷ against 2 ∷ against 1 ∷ [] }
 
+abbrev pub entries : List LegRecord → CircuitRecord → List (Call (Unit {0}) (Unit {0}))
+entries [] c = joining (circuit_words c) ∷ []
+entries (l ∷ ls) c = entering (leg_words l) ∷ entries ls c
+
+-- a book of triangulation: the angles entered and joined
+abbrev pub triangle_book : CircuitRecord → Way (Unit {0}) (Unit {0})
+triangle_book c = record { quantity = tt; standard = tt; calls = entries corners c }
+
 -- ---- what they show
-module _ {Element : Type 0} (q : Terms Element) (s : Rules) where
-  abbrev pub EndsIn : OneWay → Survey → Type 0
-  EndsIn way p = Ends (λ _. q) (λ _. s) way tt tt p
+abbrev pub LevelEnds : LevelWay → Survey → Type 0
+LevelEnds way p = Ends (λ _. heights_terms) (λ _. level_rules) way tt tt p
 
-  -- two ways end in different surveys, both gradable, and the second is the first otherwise written
-  pub record OtherwiseWritten (v w : OneWay) : Type 0 where
-    pub before : Survey
-    pub after : Survey
-    pub ends_before : EndsIn v before
-    pub ends_after : EndsIn w after
-    pub rewriting : Rewriting q before after
-    pub different : before ≡ after → ⊥
+-- two ways end in different surveys, both gradable, and the second is the first otherwise written
+pub record RewrittenUnder {Element : Type 0} (q : Terms Element) (s : Rules) (v w : Way (Unit {0}) (Unit {0})) : Type 0 where
+  pub before : Survey
+  pub after : Survey
+  pub ends_before : Ends (λ _. q) (λ _. s) v tt tt before
+  pub ends_after : Ends (λ _. q) (λ _. s) w tt tt after
+  pub rewriting : Rewriting q before after
+  pub different : before ≡ after → ⊥
 
-abbrev pub LevelEnds : OneWay → Survey → Type 0
-LevelEnds = EndsIn heights_terms level_rules
-
-abbrev pub LevelRewritten : (v w : OneWay) → Type 0
-LevelRewritten = OtherwiseWritten heights_terms level_rules
+abbrev pub OtherwiseWritten : (v w : LevelWay) → Type 0
+OtherwiseWritten = RewrittenUnder heights_terms level_rules
 
 -- the leg's own misclosure is strictly smaller in the second
 pub record SmallerMisclosure (a b : Survey) (n : ℕ) : Type 0 where
@@ -150,7 +155,7 @@ pub record SmallerMisclosure (a b : Survey) (n : ℕ) : Type 0 where
 
 -- two ways end in gradable surveys whose legs and circuits pair off, the second's no worse, and leg 1's misclosure is
 -- strictly smaller; their best classes are the ones given
-pub record NoWorseBook (v w : OneWay) (old new : Class) : Type 0 where
+pub record NoWorseBook (v w : LevelWay) (old new : Class) : Type 0 where
   pub before : Survey
   pub after : Survey
   pub ends_before : LevelEnds v before
@@ -162,12 +167,12 @@ pub record NoWorseBook (v w : OneWay) (old new : Class) : Type 0 where
   pub best_after : (grade heights_terms level_rules after).best ≡ Some new
 
 pub record Examples : Type 0 where
-  pub renumbered : LevelRewritten first_book renumbered_book
-  pub elsewhere : LevelRewritten first_book elsewhere_book
-  pub turned : LevelRewritten first_book turned_book
-  pub mixed : LevelRewritten first_book mixed_book
+  pub renumbered : OtherwiseWritten first_book renumbered_book
+  pub elsewhere : OtherwiseWritten first_book elsewhere_book
+  pub turned : OtherwiseWritten first_book turned_book
+  pub mixed : OtherwiseWritten first_book mixed_book
   -- a due sum that is not its own opposite
-  pub triangle_turned : OtherwiseWritten angles_terms triangulation_rules (book corners triangle) (book corners turned_triangle)
+  pub triangle_turned : RewrittenUnder angles_terms triangulation_rules (triangle_book triangle) (triangle_book turned_triangle)
   -- a smaller misclosure, and the same class
   pub closer : NoWorseBook first_book closer_book Second Second
   -- a smaller misclosure, and a class that is strictly better

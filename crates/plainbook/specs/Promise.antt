@@ -109,9 +109,9 @@ module _ {Q S Element : Type 0} (terms : Q → Terms Element) (rules : S → Rul
   abbrev pub Leads : Way Q S → Q → S → Survey → Type 0
   Leads way q s p = run terms rules (opened way.quantity way.standard) way.calls ≡ record { quantity = q; standard = s; survey = p }
 
-  -- a way ends there: it leads there, and grade does not refuse it
+  -- a way ends with this quantity, this standard and this survey, and grade does not refuse it
   pub record Ends (way : Way Q S) (q : Q) (s : S) (p : Survey) : Type 0 where
-    pub held : Leads way q s p
+    pub held : run terms rules (opened way.quantity way.standard) way.calls ≡ record { quantity = q; standard = s; survey = p }
     pub graded : first (grade_refusals (terms q) (rules s) p) ≡ None
 
   pub record Promise : Type 0 where
