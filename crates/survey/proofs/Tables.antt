@@ -11,6 +11,7 @@ use Rattle.std.specs.Cmp.{nat_cmp_total, unsigned_tied}
 use Rattle.std.specs.Ordering.{nat_cmp}
 use Rattle.std.specs.Option.{option_map}
 use Rattle.records.specs.Ranges.{between}
+use Rattle.plainbook.proofs.Standing.{some_same}
 use Rattle.survey.specs.Numbered.{Numbered, table, every}
 use Rattle.std.proofs.lemmas.Cmp.{eq_by_cmp_equiv}
 use Rattle.std.proofs.lemmas.Map.{lookup-none}
@@ -67,9 +68,6 @@ abbrev pub seek : {X : Type 0} → List (ℕ × X) → ℕ → Option X
 seek es n = lookup (is_at (nat_cmp n)) es
 
 module _ {X : Type 0} where
-  same_found : {x y : X} → Some x ≡ Some y → x ≡ y
-  same_found e = cc
-
   pub seek_head : (n : ℕ) (e : ℕ × X) (es : List (ℕ × X)) → n ≡ e.0 → seek (e ∷ es) n ≡ Some e.1
   seek_head n e es same = lookup_head (is_at (nat_cmp n)) e es (unsigned_tied n e.0 ∙ eq-eqb n e.0 same)
 
@@ -93,7 +91,7 @@ module _ {X : Type 0} where
         go : (b : Bool) → eqb n e.0 ≡ b → T (test n x)
         go true same =
             let at : n ≡ e.0 = eqb-true n e.0 same in
-            subst (λ v. T (test n v)) (same_found (sym (seek_head n e es at) ∙ is)) (subst (λ k. T (test k e.1)) (sym at) here)
+            subst (λ v. T (test n v)) (some_same (sym (seek_head n e es at) ∙ is)) (subst (λ k. T (test k e.1)) (sym at) here)
         go false apart = rest (sym (seek_tail n e es apart) ∙ is)
 
     -- what every entry passes, what is found passes
@@ -177,5 +175,5 @@ module _ {X : Type 0} where
     numbered_inserted high (Err y) s u o here = subst (λ es. IsStrictlySortedBy nat_cmp (keys_of es) × T (list_all (between 1 high) (keys_of es))) (sym u) o
 
     pub every_inserted : (test : ℕ → X → Bool) (r : Result (Option X) (AllocFailed (ℕ × X))) → OnOk r (Updates nat_cmp m n k (Some v)) → OnErr r (IsUnchanged m n) → T (every test m) → T (test k v) → T (every test n)
-    every_inserted test (Ok old) s u all here = every_sets test m n k (Some v) s is all (λ x e. subst (λ y. T (test k y)) (same_found e) here)
+    every_inserted test (Ok old) s u all here = every_sets test m n k (Some v) s is all (λ x e. subst (λ y. T (test k y)) (some_same e) here)
     every_inserted test (Err y) s u all here = every_unchanged test m n u all
