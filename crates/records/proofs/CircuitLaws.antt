@@ -7,7 +7,8 @@ use Rattle.records.specs.declared.circuit.Sense.TheVariants.{Along, Against}
 use Rattle.records.specs.declared.refusal.Reason.TheVariants.{Layout, Range}
 use Rattle.records.specs.declared.word.Kind.TheVariants as kinds
 use Rattle.records.specs.declared.word.Slot.{Slot}
-use Rattle.records.specs.Circuits.{CircuitRecord, UseRecord, sense_bit, use_word, use_read, use_ranged, use_unranged, head_ranged, circuit_words, circuit_read, circuit_decoded, circuit_fits, uses_fit, CircuitsReadBack}
+use Rattle.records.specs.Circuits.{CircuitRecord, UseRecord, sense_bit, use_word, use_read, head_ranged, circuit_words, circuit_read, circuit_decoded, circuit_fits, uses_fit, CircuitsReadBack}
+use Rattle.records.specs.Uses.{use_ranged, use_unranged}
 use Rattle.records.specs.Layouts.{misplaced, circuit_layout, must, may}
 use Rattle.records.specs.Ranges.{is_leg_number, is_circuit_number, is_leg_count}
 use Rattle.records.specs.Refusals.{refusal, first, unless}

@@ -1,11 +1,12 @@
 -- Circuits and their words. Assumes nothing.
-use Rattle.std.proofs.Common.{◌≡◌, ℕ, suc, ◌+◌, ◌-◌, ◌<◌, ◌≤◌, Bool, true, false, cond, List, [], ◌∷◌, ◌++◌, map, length, get_or, take, drop, is_some, Some, None, Ok, Err, Option, Result, sym, refl, ap, ◌∙◌, ap₂, arith, MatchOption}
+use Rattle.std.proofs.Common.{◌≡◌, not, ℕ, suc, ◌+◌, ◌-◌, ◌<◌, ◌≤◌, Bool, true, false, cond, List, [], ◌∷◌, ◌++◌, map, length, get_or, take, drop, is_some, Some, None, Ok, Err, Option, Result, sym, refl, ap, ◌∙◌, ap₂, arith, MatchOption}
 use Rattle.std.specs.Option.{option_map}
-use Rattle.std.specs.List.{slice_get}
+use Rattle.std.specs.List.{slice_get, position, position_from}
+use Rattle.std.proofs.lemmas.Iterator.Adapters.{position_from-zero}
 use Rattle.std.proofs.lemmas.List.{at_drop_more, at_drop_all, map_push, map_more, length-drop, length-map, take_rest}
 use Rattle.std.proofs.lemmas.Bool.{and_from, le-leb, both_ways}
 use Rattle.records.specs.declared.circuit.LegUse.{LegUse}
-use Rattle.records.specs.declared.number.CircuitNumber.{CircuitNumber}
+use Rattle.records.specs.declared.number.Number.{Number}
 use Rattle.records.specs.declared.refusal.Reason.TheVariants.{Layout, Range}
 use Rattle.records.specs.declared.refusal.Refusal.{Refusal}
 use Rattle.records.specs.declared.word.Kind.TheVariants as kinds
@@ -16,7 +17,8 @@ use Rattle.records.specs.Refusals.{refusal, first, unless}
 use Rattle.records.specs.Words.{bits, payload}
 use Rattle.records.proofs.Lowest.{From, passed, stopped, from_zero}
 use Rattle.records.proofs.Layouts.{next, no_more, refused_at}
-use Rattle.records.specs.Circuits.{CircuitRecord, circuit_read, circuit_refusals, circuit_unranged, head_ranged, use_word, Unranged, LeastUnranged, UseRecord, use_record, use_read, use_ranged, use_unranged}
+use Rattle.records.specs.Circuits.{CircuitRecord, circuit_read, circuit_refusals, circuit_unranged, head_ranged, use_word, Unranged, LeastUnranged, UseRecord, use_record, use_read}
+use Rattle.records.specs.Uses.{use_ranged, use_unranged}
 
 -- a use is read just where it is in range
 pub read_some : (o : Option LegUse) (b : Bool) (u : UseRecord) → option_map use_record o ≡ cond b (Some u) None → is_some o ≡ b
@@ -36,6 +38,20 @@ module _ (ws : List ℕ) (i j : ℕ) (d : ℕ) (l : i < length ws) where
 
   pub unranged : use_ranged (get_or ws i d) ≡ false → use_unranged j (drop i ws) ≡ Some j
   unranged e = at_drop_more (use_unranged j) ws i d l ∙ ap (λ b. cond b (use_unranged (suc j) (drop (i + 1) ws)) (Some j)) e
+
+-- the first use that is out of range, by its place among the uses
+pub unranged_first : (ws : List ℕ) → use_unranged 2 ws ≡ option_map (λ i. 2 + i) (position (λ w. not (use_ranged w)) ws)
+unranged_first ws = from 0 ws ∙ ap (option_map (λ i. 2 + i)) (sym (position_from-zero (λ w. not (use_ranged w)) ws))
+  where
+    chosen : (i : ℕ) (b : Bool) (o p : Option ℕ) → o ≡ option_map (λ i. 2 + i) p → cond b o (Some (2 + i)) ≡ option_map (λ i. 2 + i) (cond (not b) (Some i) p)
+    chosen i true o p e = e
+    chosen i false o p e = refl
+
+    from : (i : ℕ) (ws : List ℕ) → use_unranged (2 + i) ws ≡ option_map (λ i. 2 + i) (position_from (λ w. not (use_ranged w)) i ws)
+    from i [] = refl
+    from i (w ∷ ws) =
+        let next : suc (2 + i) ≡ 2 + (i + 1) = omega arith in
+        chosen i (use_ranged w) _ _ (ap (λ j. use_unranged j ws) next ∙ from (i + 1) ws)
 
 pub none_left : (ws : List ℕ) (i j : ℕ) → length ws ≤ i → use_unranged j (drop i ws) ≡ None
 none_left ws i j l = at_drop_all (use_unranged j) ws i l
@@ -98,7 +114,7 @@ module _ (ws : List ℕ) where
         let is = length-drop 2 ws in
         and_from _ _ (le-leb 1 (length (drop 2 ws)) (omega arith)) (le-leb (length (drop 2 ws)) 16 (omega arith))
 
-pub head_read : (o : Option CircuitNumber) (b : Bool) (n : ℕ) → option_map (λ n. n.value) o ≡ cond b (Some n) None → is_some o ≡ b
+pub head_read : (o : Option (Number 32)) (b : Bool) (n : ℕ) → option_map (λ n. n.value) o ≡ cond b (Some n) None → is_some o ≡ b
 head_read None true n e = cc
 head_read None false n e = refl
 head_read (Some x) true n e = refl
@@ -113,7 +129,7 @@ words_more ws ws' head due us i w u l before pushed is at =
     ∙ ap₂ (λ xs x. xs ++ (x ∷ [])) before (is ∙ ap (λ v. use_word (use_record v)) at)
     ∙ ap (λ xs. head ∷ (due ∷ xs)) (sym (ap (map use_word) (map_more use_record us i u l) ∙ map_push use_word (map use_record (take i us)) (use_record (get_or us i u))))
 
-pub head_is : (x : CircuitNumber) (b : Bool) (n : ℕ) → option_map (λ n. n.value) (Some x) ≡ cond b (Some n) None → x.value ≡ n
+pub head_is : (x : Number 32) (b : Bool) (n : ℕ) → option_map (λ n. n.value) (Some x) ≡ cond b (Some n) None → x.value ≡ n
 head_is x true n e = cc
 head_is x false n e = let z : ◌≡◌ {A = ℕ} 0 1 = cc in absurd (omega arith)
 

@@ -1,5 +1,5 @@
 -- A circuit's record: what it says, its words, and when words are refused.
-use Rattle.std.specs.Prelude.{◌≡◌, ℕ, zero, suc, ◌+◌, ◌*◌, ◌^◌, Bool, true, false, cond, ◌&&◌, List, [], ◌∷◌, map, length, drop, Some, None, Ok, vec_items, Option, Result, MatchOption, ◌==◌, nat_lt, slice_index}
+use Rattle.std.specs.Prelude.{◌≡◌, ℕ, zero, suc, ◌+◌, ◌*◌, ◌^◌, Bool, true, false, cond, ◌&&◌, List, [], ◌∷◌, map, length, drop, Some, Ok, vec_items, Option, Result, MatchOption, ◌==◌, nat_lt, slice_index}
 use Rattle.std.specs.List.{slice_get}
 use Rattle.records.specs.declared.circuit.Circuit.{Circuit}
 use Rattle.records.specs.declared.circuit.Head.{Head}
@@ -13,6 +13,7 @@ use Rattle.records.specs.Layouts.{misplaced, circuit_layout}
 use Rattle.records.specs.Lowest.{Lowest}
 use Rattle.records.specs.Ranges.{is_leg_number, is_circuit_number, is_leg_count}
 use Rattle.records.specs.Refusals.{refusal, first, unless}
+use Rattle.records.specs.Uses.{use_ranged, use_unranged}
 use Rattle.records.specs.Words.{word, payload, bits}
 
 -- a leg as a circuit runs it
@@ -69,15 +70,6 @@ circuit_read ws =
 -- the number is in range, and the bits below it are zero
 abbrev pub head_ranged : ℕ → Bool
 head_ranged w = is_circuit_number (bits 20 8 (payload w)) && bits 0 20 (payload w) == 0
-
--- the leg number is in range, and the bits between it and the sense are zero
-abbrev pub use_ranged : ℕ → Bool
-use_ranged w = is_leg_number (bits 0 8 (payload w)) && bits 8 19 (payload w) == 0
-
--- the least index, counted from i, of a use that is out of range
-abbrev pub use_unranged : ℕ → List ℕ → Option ℕ
-use_unranged i [] = None
-use_unranged i (w ∷ ws) = cond (use_ranged w) (use_unranged (suc i) ws) (Some i)
 
 abbrev pub circuit_unranged : List ℕ → Option ℕ
 circuit_unranged ws = cond (head_ranged (slice_index ws 0)) (use_unranged 2 (drop 2 ws)) (Some 0)

@@ -1,7 +1,9 @@
 pub mod Words
 pub mod Ranges
 pub mod Refusals
+pub mod RefusalTexts
 pub mod Lowest
 pub mod Layouts
 pub mod Legs
+pub mod Uses
 pub mod Circuits

@@ -1,14 +1,16 @@
 // A circuit: legs run one after another, and the sum that is due.
-ghost use Rattle.std.specs.Prelude.{◌≡◌, true, vec_len};
+ghost use Rattle.std.specs.Prelude.{◌≡◌, true, length, vec_len, None};
 ghost use Rattle.records.specs.Ranges.{is_leg_count};
+ghost use Rattle.records.specs.Uses.{use_unranged};
 
 use crate::number::{CircuitNumber, LegNumber};
 use crate::word::Payload;
 
 pub mod codec;
+mod named;
 
 // Which way a leg is run.
-#[derive(Clone, Copy)]
+#[derive(Clone, Copy, PartialEq, Eq, Debug)]
 pub enum Sense {
     Along,
     Against,
@@ -21,11 +23,20 @@ pub struct LegUse {
     pub sense: Sense,
 }
 
-// What a circuit's first two words say.
+// The words of a circuit's legs, each in range.
 #[derive(Clone, Copy)]
-pub struct Head {
+pub struct Uses<'a> {
+    pub words: &'a [u32],
+    ghost ranged: { use_unranged 2 words.now ≡ None },
+    ghost few: { is_leg_count (length words.now) ≡ true },
+}
+
+// What a circuit's words say, before there is room for its legs.
+#[derive(Clone, Copy)]
+pub struct Head<'a> {
     pub number: CircuitNumber,
     pub due: Payload,
+    pub uses: Uses<'a>,
 }
 
 #[derive(Drop)]

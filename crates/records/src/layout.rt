@@ -6,7 +6,6 @@ ghost use Rattle.records.specs.Refusals.{refusal, unless};
 ghost use Rattle.records.specs.declared.refusal.Reason.TheVariants.{Layout};
 
 use crate::refusal::{Reason, Refusal};
-use crate::word::parts::kind_of;
 use crate::word::{Kind, Slot};
 
 pub(crate) const LEG: [Slot; 5] = [
@@ -74,11 +73,11 @@ pub fn misplaced(slots: &[Slot], words: &[u32]) -> Option<usize>
     ensures bound { IfSome result (λ i. i ≤ length slots.now) }
 {
     for (i, slot) in slots.iter().enumerate() {
-        if i >= words.len() {
-            if slot.required {
-                return Some(i);
-            }
-        } else if kind_of(words[i]) != slot.kind.number() {
+        let broken = match words.get(i) {
+            None => slot.required,
+            Some(word) => !slot.kind.is_of(*word),
+        };
+        if broken {
             return Some(i);
         }
     }
@@ -96,9 +95,6 @@ pub(crate) fn check(slots: &[Slot], words: &[u32]) -> Result<(), Refusal>
 {
     match misplaced(slots, words) {
         None => Ok(()),
-        Some(i) => Err(Refusal {
-            reason: Reason::Layout,
-            place: i as u32,
-        }),
+        Some(i) => Err(Reason::Layout.at(i as u32)),
     }
 }

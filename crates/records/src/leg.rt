@@ -7,7 +7,7 @@ use crate::word::Payload;
 pub mod codec;
 
 // How a leg was run: once, or out and back.
-#[derive(Clone, Copy)]
+#[derive(Clone, Copy, PartialEq, Eq, Debug)]
 pub enum Running {
     Single,
     Double,

@@ -1,24 +1,18 @@
-// The numbers that name legs, circuits and nodes, each within its range.
+// The numbers that name legs, circuits and nodes, each from 1 to a greatest.
 ghost use Rattle.std.specs.Prelude.{◌≡◌, true};
-ghost use Rattle.records.specs.Ranges.{is_leg_number, is_circuit_number, is_node};
+ghost use Rattle.records.specs.Ranges.{between};
 
 pub mod ranges;
 
-#[derive(Clone, Copy)]
-pub struct LegNumber {
-    pub value: u8,
-    ghost ranged: { is_leg_number value ≡ true },
+#[derive(Clone, Copy, PartialEq, Eq, Debug)]
+pub struct Number<const GREATEST: u16> {
+    pub value: u16,
+    ghost ranged: { between 1 GREATEST value ≡ true },
 }
 
-#[derive(Clone, Copy)]
-pub struct CircuitNumber {
-    pub value: u8,
-    ghost ranged: { is_circuit_number value ≡ true },
-}
+pub type LegNumber = Number<128>;
+
+pub type CircuitNumber = Number<32>;
 
 // A bench mark in levelling, a line between two stations in triangulation.
-#[derive(Clone, Copy)]
-pub struct Node {
-    pub value: u16,
-    ghost ranged: { is_node value ≡ true },
-}
+pub type Node = Number<1023>;

@@ -1,9 +1,9 @@
 // Refusals: what was wrong, which part found it, and where.
 ghost use Rattle.std.specs.Prelude.{◌≡◌};
-ghost use Rattle.records.specs.Refusals.{row};
-ghost use Rattle.records.specs.declared.refusal.Fault.TheVariants.{Refused, Memory};
 
-use std::alloc::{AllocError, AllocFailed};
+mod table;
+mod told;
+mod turned;
 
 // The part of the program that finds a refusal.
 #[derive(Clone, Copy, PartialEq, Eq, Debug)]
@@ -14,36 +14,36 @@ pub enum Part {
     Book,
 }
 
-// What was wrong.
+// What was wrong, by its number.
 #[derive(Clone, Copy, PartialEq, Eq, Debug)]
 pub enum Reason {
     // a word is absent, surplus or of another kind than the layout's
-    Layout,
+    Layout = 1,
     // a number, a node or a zero bit breaks its range, or a leg's nodes are equal
-    Range,
-    // a value, a back value or a due sum that the quantity does not accept
-    Measure,
-    // a length or readings that the standard does not accept
-    Observation,
-    // a circuit form that the standard does not accept
-    Form,
+    Range = 2,
     // the number already stands
-    Taken,
+    Taken = 3,
     // the number does not stand
-    Absent,
+    Absent = 4,
     // a standing circuit uses the leg
-    InUse,
+    InUse = 5,
+    // a value, a back value or a due sum that the quantity does not accept
+    Measure = 6,
+    // a length or readings that the standard does not accept
+    Observation = 7,
     // a circuit names a leg twice
-    Twice,
+    Twice = 8,
     // a leg does not begin where the one before it ended
-    Broken,
-    NoLeg,
+    Broken = 9,
+    // a circuit form that the standard does not accept
+    Form = 10,
+    NoLeg = 11,
     // a leg that no circuit uses
-    Loose,
+    Loose = 12,
     // a class that is not 1 to 5
-    NoClass,
+    NoClass = 13,
     // fewer words than misses
-    TooFew,
+    TooFew = 14,
 }
 
 #[derive(Clone, Copy, PartialEq, Eq, Debug)]
@@ -57,62 +57,4 @@ pub struct Refusal {
 pub enum Fault {
     Refused(Refusal),
     Memory,
-}
-
-impl Reason {
-    pub fn number(&self) -> u8
-        ensures { result ≡ (row self.now).number }
-    {
-        match self {
-            Reason::Layout => 1,
-            Reason::Range => 2,
-            Reason::Measure => 6,
-            Reason::Observation => 7,
-            Reason::Form => 10,
-            Reason::Taken => 3,
-            Reason::Absent => 4,
-            Reason::InUse => 5,
-            Reason::Twice => 8,
-            Reason::Broken => 9,
-            Reason::NoLeg => 11,
-            Reason::Loose => 12,
-            Reason::NoClass => 13,
-            Reason::TooFew => 14,
-        }
-    }
-
-    pub fn part(&self) -> Part
-        ensures { result ≡ (row self.now).part }
-    {
-        match self {
-            Reason::Layout | Reason::Range => Part::Words,
-            Reason::Measure => Part::Quantity,
-            Reason::Observation | Reason::Form => Part::Standard,
-            _ => Part::Book,
-        }
-    }
-}
-
-impl From<Refusal> for Fault {
-    ghost from_gives = { λ e r. r ≡ Refused e };
-
-    fn from(refusal: Refusal) -> Fault {
-        Fault::Refused(refusal)
-    }
-}
-
-impl From<AllocError> for Fault {
-    ghost from_gives = { λ _ r. r ≡ Memory };
-
-    fn from(_error: AllocError) -> Fault {
-        Fault::Memory
-    }
-}
-
-impl<T: Drop> From<AllocFailed<T>> for Fault {
-    ghost from_gives = { λ _ r. r ≡ Memory };
-
-    fn from(_refused: AllocFailed<T>) -> Fault {
-        Fault::Memory
-    }
 }

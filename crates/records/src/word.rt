@@ -4,16 +4,16 @@ ghost use Rattle.std.specs.Prelude.{◌^◌, ◌<◌};
 pub mod parts;
 
 // What a word says, by its top four bits.
-#[derive(Clone, Copy)]
+#[derive(Clone, Copy, PartialEq, Eq, Debug)]
 pub enum Kind {
-    Leg,
-    Value,
-    Length,
-    Readings,
-    Back,
-    Circuit,
-    Due,
-    Use,
+    Leg = 1,
+    Value = 2,
+    Length = 3,
+    Readings = 4,
+    Back = 5,
+    Circuit = 6,
+    Due = 7,
+    Use = 8,
 }
 
 // What a layout has at an index: a word of this kind, which may be left out or may not.

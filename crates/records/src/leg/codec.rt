@@ -10,11 +10,6 @@ use crate::refusal::{Reason, Refusal};
 use crate::word::{Kind, Payload};
 use std::alloc::{AllocError, Global};
 
-const OUT_OF_RANGE: Refusal = Refusal {
-    reason: Reason::Range,
-    place: 0,
-};
-
 impl Leg {
     pub fn decode(words: &[u32]) -> Result<Leg, Refusal>
         ensures { seen leg_record result ≡ leg_decoded words.now }
@@ -29,17 +24,12 @@ impl Leg {
             _ => unreachable(),
         };
         let head = Payload::of_word(*head);
-        let Some(number) = LegNumber::new(head.high()) else {
-            return Err(OUT_OF_RANGE);
-        };
-        let Some(start) = Node::new(head.middle()) else {
-            return Err(OUT_OF_RANGE);
-        };
-        let Some(end) = Node::new(head.low()) else {
-            return Err(OUT_OF_RANGE);
-        };
-        if start.value == end.value {
-            return Err(OUT_OF_RANGE);
+        let out_of_range = Reason::Range.at(0);
+        let number = LegNumber::new(head.high().into()).ok_or(out_of_range)?;
+        let start = Node::new(head.middle()).ok_or(out_of_range)?;
+        let end = Node::new(head.low()).ok_or(out_of_range)?;
+        if start == end {
+            return Err(out_of_range);
         }
         let metres = Payload::of_word(*length).bits;
         let readings = Payload::of_word(*readings);
@@ -60,15 +50,14 @@ impl Leg {
         ensures law { LegsReadBack }
     {
         let Readings { a, b, c } = self.readings;
-        let head = Payload::packed(self.number.value, self.start.value, self.end.value).under(
-            Kind::Leg,
-        );
-        let value = self.value.under(Kind::Value);
         let length = Payload {
             bits: self.length.metres,
-        }
-        .under(Kind::Length);
-        let readings = Payload::packed(a, b, c).under(Kind::Readings);
+        };
+        let head = Payload::packed(self.number.value, self.start.value, self.end.value);
+        let head = head.under(Kind::Leg);
+        let value = self.value.under(Kind::Value);
+        let length = length.under(Kind::Length);
+        let readings = Payload::packed(a.into(), b, c).under(Kind::Readings);
         match self.back {
             None => [head, value, length, readings].to_vec(heap),
             Some(back) => [head, value, length, readings, back.under(Kind::Back)].to_vec(heap),

@@ -1,40 +1,16 @@
 // Numbers taken in where they are in range.
 ghost use Rattle.std.specs.Prelude.{◌≡◌};
 ghost use Rattle.std.specs.Option.{option_map};
-ghost use Rattle.records.specs.Ranges.{is_leg_number, is_circuit_number, is_node, passing};
+ghost use Rattle.records.specs.Ranges.{between, passing};
 
-use super::{CircuitNumber, LegNumber, Node};
+use super::Number;
 
-impl LegNumber {
-    pub fn new(value: u8) -> Option<LegNumber>
-        ensures { option_map (λ n. n.value) result ≡ passing is_leg_number value }
+impl<const GREATEST: u16> Number<GREATEST> {
+    pub fn new(value: u16) -> Option<Self>
+        ensures { option_map (λ n. n.value) result ≡ passing (between 1 GREATEST) value }
     {
-        if value >= 1 && value <= 128 {
-            Some(LegNumber { value })
-        } else {
-            None
-        }
-    }
-}
-
-impl CircuitNumber {
-    pub fn new(value: u8) -> Option<CircuitNumber>
-        ensures { option_map (λ n. n.value) result ≡ passing is_circuit_number value }
-    {
-        if value >= 1 && value <= 32 {
-            Some(CircuitNumber { value })
-        } else {
-            None
-        }
-    }
-}
-
-impl Node {
-    pub fn new(value: u16) -> Option<Node>
-        ensures { option_map (λ n. n.value) result ≡ passing is_node value }
-    {
-        if value >= 1 && value <= 1023 {
-            Some(Node { value })
+        if value >= 1 && value <= GREATEST {
+            Some(Number { value })
         } else {
             None
         }

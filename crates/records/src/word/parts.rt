@@ -1,31 +1,16 @@
 // A word taken apart and put together, and a list of words held against a layout.
-ghost use Rattle.std.specs.Prelude.{◌≡◌, ◌+◌, ◌*◌, ◌^◌, ◌<◌};
+ghost use Rattle.std.specs.Prelude.{◌≡◌, ◌==◌, ◌+◌, ◌*◌, ◌^◌, ◌<◌};
 ghost use Rattle.records.specs.Words.{kind, payload, word, bits, signed, kind_number};
 
 use super::{Kind, Payload};
 
 impl Kind {
-    pub(crate) fn number(self) -> u32
-        ensures { result ≡ kind_number self }
+    // Whether a word is of this kind.
+    pub fn is_of(self, w: u32) -> bool
+        ensures { result ≡ (kind w == kind_number self) }
     {
-        match self {
-            Kind::Leg => 1,
-            Kind::Value => 2,
-            Kind::Length => 3,
-            Kind::Readings => 4,
-            Kind::Back => 5,
-            Kind::Circuit => 6,
-            Kind::Due => 7,
-            Kind::Use => 8,
-        }
+        w >> 28 == self as u32
     }
-}
-
-// The kind of a word, as a number.
-pub(crate) fn kind_of(w: u32) -> u32
-    ensures { result ≡ kind w }
-{
-    w >> 28
 }
 
 impl Payload {
@@ -39,13 +24,14 @@ impl Payload {
     }
 
     // Three fields: bits 27 to 20, 19 to 10 and 9 to 0.
-    pub(crate) fn packed(high: u8, middle: u16, low: u16) -> Payload
+    pub(crate) fn packed(high: u16, middle: u16, low: u16) -> Payload
+        requires high_fits { high < 2 ^ 8 }
         requires middle_fits { middle < 2 ^ 10 }
         requires low_fits { low < 2 ^ 10 }
         ensures { result.bits ≡ high * 2 ^ 20 + middle * 2 ^ 10 + low }
     {
         Payload {
-            bits: ((high as u32) << 20) + ((middle as u32) << 10) + low as u32,
+            bits: (u32::from(high) << 20) + (u32::from(middle) << 10) + u32::from(low),
         }
     }
 
@@ -53,7 +39,7 @@ impl Payload {
     pub(crate) fn under(self, kind: Kind) -> u32
         ensures { result ≡ word kind self.bits }
     {
-        kind.number() * (1 << 28) + self.bits
+        kind as u32 * (1 << 28) + self.bits
     }
 
     // Bits 27 to 20.

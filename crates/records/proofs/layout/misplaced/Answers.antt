@@ -1,26 +1,36 @@
-use Rattle.std.proofs.Common.{◌≡◌, length, sym, ◌∙◌, arith, rules}
+use Rattle.std.proofs.Common.{◌≡◌, ◌≤◌, length, get_or, Some, sym, ap, ◌∙◌, arith, rules}
+use Rattle.std.proofs.lemmas.Bool.{eqb-true, eqb-false, not-false, not-true}
+use Rattle.records.specs.Layouts.{misplaced}
+use Rattle.records.specs.Words.{kind}
 use Rattle.records.proofs.Layouts.{needed, spared, other_kind, same_kind, surplus, over, lowest_misplaced}
 use Rattle.records.proofs.layout.misplaced.Goals as goal
-use Rattle.records.proofs.layout.misplaced.Goals.{then-i-words+else-slot, else-i-words+else-kind_of-number}
+use Rattle.records.proofs.layout.misplaced.Goals.{in-None, in-Some}
 
-pub returns-then-slot : goal.returns-then-slot
-returns-then-slot c =
-    let v = needed _ _ _ _ (omega arith) c.if-i-words.true c.if-slot.true ∙ c.loop-i.invariant in
-    record { value = v; lowest = lowest_misplaced c.args.slots.now c.args.words.now _ v; bound = search rules }
-
-pub returns-then-kind_of-number : goal.returns-then-kind_of-number
-returns-then-kind_of-number c =
-    let v =
-    other_kind _ _ _ _ _ (omega arith) (omega arith) (λ e. c.if-kind_of-number.true (c.kind_of.ensures ∙ e ∙ sym c.number.ensures))
-    ∙ c.loop-i.invariant in
-    record { value = v; lowest = lowest_misplaced c.args.slots.now c.args.words.now _ v; bound = search rules }
+pub returns-then-broken : goal.returns-then-broken
+returns-then-broken c =
+    let ws = c.args.words.now in
+    let v : Some c.loop-i.i ≡ misplaced 0 c.args.slots.now ws = elim c.match-get.branch [
+      | in-None w ↦
+          let past : length ws ≤ c.loop-i.i = search rules in
+          needed _ ws _ _ c.loop-i-test.true past (sym w.broken-is ∙ c.if-broken.true) ∙ c.loop-i.invariant
+      | in-Some w ↦
+          let here : w.in-Some.word.now ≡ get_or ws c.loop-i.i 0 = search rules in
+          other_kind _ ws _ _ 0 c.loop-i-test.true (omega (arith, w.in-Some.ensures.lookup)) (λ e. eqb-false _ _ (sym w.is_of.ensures ∙ not-true _ (sym w.broken-is ∙ c.if-broken.true)) (ap kind here ∙ e))
+          ∙ c.loop-i.invariant
+    ] in
+    record { value = v; lowest = lowest_misplaced c.args.slots.now ws _ v; bound = search rules }
 
 pub loop-i-preserved : goal.loop-i-preserved
 loop-i-preserved c =
-    elim c.if-i-words.branch [
-      | then-i-words+else-slot w ↦ spared _ _ _ _ c.loop-i-test.true w.if-i-words.true w.if-slot.false ∙ c.loop-i.invariant
-      | else-i-words+else-kind_of-number w ↦
-          same_kind _ _ _ _ _ c.loop-i-test.true w.if-i-words.false (sym w.kind_of.ensures ∙ w.if-kind_of-number.false ∙ w.number.ensures) ∙ c.loop-i.invariant
+    let ws = c.args.words.now in
+    elim c.match-get.branch [
+      | in-None w ↦
+          let past : length ws ≤ c.loop-i.i = search rules in
+          spared _ ws _ _ c.loop-i-test.true past (sym w.broken-is ∙ c.if-broken.false) ∙ c.loop-i.invariant
+      | in-Some w ↦
+          let here : w.in-Some.word.now ≡ get_or ws c.loop-i.i 0 = search rules in
+          same_kind _ ws _ _ 0 c.loop-i-test.true (omega (arith, w.in-Some.ensures.lookup)) (ap kind (sym here) ∙ eqb-true _ _ (sym w.is_of.ensures ∙ not-false _ (sym w.broken-is ∙ c.if-broken.false)))
+          ∙ c.loop-i.invariant
     ]
 
 pub returns-then-words-slots : goal.returns-then-words-slots

@@ -1,19 +1,20 @@
 use Rattle.std.proofs.Common.{◌≡◌, suc, ◌+◌, map, drop, None, sym, ap, ◌∙◌, arith}
 use Rattle.std.proofs.lemmas.List.{take_all}
 use Rattle.std.proofs.lemmas.Bool.{both_ways}
-use Rattle.records.specs.Circuits.{use_unranged, use_read}
+use Rattle.records.specs.Circuits.{use_read}
+use Rattle.records.specs.Uses.{use_unranged}
 use Rattle.records.proofs.Circuits.{read_some, read_is, still_ranged, read_more}
-use Rattle.records.proofs.circuit.codec.read_uses.Goals as goal
+use Rattle.records.proofs.circuit.Uses.legs.Goals as goal
 
 pub unreachable-requires : goal.unreachable-requires
 unreachable-requires c =
     let i = c.loop-word.word-index in
-    let good = still_ranged c.args.words.now i (2 + i) 0 c.loop-word-test.true c.loop-word.invariant.0 in
+    let good = still_ranged c.args.self.now.words.now i (2 + i) 0 c.loop-word-test.true c.loop-word.invariant.0 in
     both_ways _ (sym (read_some None _ _ c.in_default.ensures)) good.0
 
 pub loop-word-preserved : goal.loop-word-preserved
 loop-word-preserved c =
-    let ws = c.args.words.now in
+    let ws = c.args.self.now.words.now in
     let i = c.loop-word.word-index in
     let good = still_ranged ws i (2 + i) 0 c.loop-word-test.true c.loop-word.invariant.0 in
     let more : 2 + (i + 1) ≡ suc (2 + i) = omega arith in (
