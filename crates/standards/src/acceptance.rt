@@ -21,16 +21,10 @@ pub fn accept_leg<S: Standard>(standard: &S, leg: &Leg) -> Result<(), Refusal>
     ensures accepted { Decides (is_ok result) (Observed (S.Standard.meaning standard.now) (leg_record leg.now)) }
 {
     if !standard.accepts_length(leg.length) {
-        return Err(Refusal {
-            reason: Reason::Observation,
-            place: LENGTH_PLACE,
-        });
+        return Err(Reason::Observation.at(LENGTH_PLACE));
     }
     if !standard.accepts_readings(leg.readings) {
-        return Err(Refusal {
-            reason: Reason::Observation,
-            place: READINGS_PLACE,
-        });
+        return Err(Reason::Observation.at(READINGS_PLACE));
     }
     Ok(())
 }
@@ -40,10 +34,7 @@ pub fn accept_form<S: Standard>(standard: &S, form: Form) -> Result<(), Refusal>
     ensures accepted { Decides (is_ok result) ((S.Standard.meaning standard.now).accepts_form form ≡ true) }
 {
     if !standard.accepts_form(form) {
-        return Err(Refusal {
-            reason: Reason::Form,
-            place: FORM_PLACE,
-        });
+        return Err(Reason::Form.at(FORM_PLACE));
     }
     Ok(())
 }

@@ -45,11 +45,11 @@ impl Standard for LevelStandard {
     }
 
     fn accepts_length(&self, length: Length) -> bool {
-        length.metres >= 1 && length.metres <= LONGEST
+        (1..=LONGEST).contains(&length.metres)
     }
 
     fn accepts_readings(&self, readings: Readings) -> bool {
-        readings.a >= 1 && readings.a <= BEST_METHOD
+        (1..=BEST_METHOD).contains(&readings.a)
     }
 
     fn accepts_form(&self, _form: Form) -> bool {
@@ -72,8 +72,8 @@ impl Standard for LevelStandard {
         let readings = finding.readings;
         match (rule, finding.running) {
             (0, _) => at_least(readings.a, METHOD),
-            (1, _) => at_most(readings.b as u64, LONGEST_SIGHT),
-            (2, _) => at_most(readings.c as u64, SIGHT_DIFFERENCE),
+            (1, _) => at_most(readings.b.into(), LONGEST_SIGHT),
+            (2, _) => at_most(readings.c.into(), SIGHT_DIFFERENCE),
             (3, Running::Double) => square_at_most(
                 finding.misclosure,
                 MISCLOSURE_FACTOR,

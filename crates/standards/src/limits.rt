@@ -23,15 +23,8 @@ pub fn limit(limits: [u16; 5], class: Class) -> u16
 pub fn at_least(value: u8, limits: [u16; 5]) -> ClassSet
     ensures { (k : Class) → holds result k ≡ at_least value limits k }
 {
-    let [first, second, third, fourth, fifth] = limits;
-    let value = value as u16;
-    ClassSet::of([
-        value >= first,
-        value >= second,
-        value >= third,
-        value >= fourth,
-        value >= fifth,
-    ])
+    let value = u16::from(value);
+    ClassSet::of(limits.map(|limit| value >= limit))
 }
 
 pub fn at_most(value: u64, limits: [u16; 5]) -> ClassSet
@@ -44,47 +37,27 @@ pub fn at_most(value: u64, limits: [u16; 5]) -> ClassSet
 pub fn at_most_each(sum: u64, limits: [u16; 5], count: u8) -> ClassSet
     ensures { (k : Class) → holds result k ≡ at_most_each sum limits count k }
 {
-    let [first, second, third, fourth, fifth] = limits;
-    let count = count as u64;
-    ClassSet::of([
-        sum <= first as u64 * count,
-        sum <= second as u64 * count,
-        sum <= third as u64 * count,
-        sum <= fourth as u64 * count,
-        sum <= fifth as u64 * count,
-    ])
+    let count = u64::from(count);
+    ClassSet::of(limits.map(|limit| sum <= u64::from(limit) * count))
 }
 
 // No more than the limit times the root of `factor` times the length: compared by the squares, in whole numbers.
 pub fn square_at_most(size: u64, factor: u8, limits: [u16; 5], metres: u32) -> ClassSet
     ensures { (k : Class) → holds result k ≡ square_at_most size factor limits metres k }
 {
-    let [first, second, third, fourth, fifth] = limits;
-    let square = size as u128 * size as u128;
-    ClassSet::of([
-        square <= allowed(factor, first, metres),
-        square <= allowed(factor, second, metres),
-        square <= allowed(factor, third, metres),
-        square <= allowed(factor, fourth, metres),
-        square <= allowed(factor, fifth, metres),
-    ])
+    let square = u128::from(size) * u128::from(size);
+    ClassSet::of(limits.map(|limit| square <= allowed(factor, limit, metres)))
 }
 
 fn allowed(factor: u8, limit: u16, metres: u32) -> u128
     ensures { result ≡ factor * (limit * limit) * metres }
 {
-    factor as u128 * (limit as u128 * limit as u128) * metres as u128
+    let limit = u128::from(limit);
+    u128::from(factor) * (limit * limit) * u128::from(metres)
 }
 
 pub fn less(metres: u32, limits: [u16; 5]) -> ClassSet
     ensures { (k : Class) → holds result k ≡ less metres limits k }
 {
-    let [first, second, third, fourth, fifth] = limits;
-    ClassSet::of([
-        metres < first as u32,
-        metres < second as u32,
-        metres < third as u32,
-        metres < fourth as u32,
-        metres < fifth as u32,
-    ])
+    ClassSet::of(limits.map(|limit| metres < u32::from(limit)))
 }

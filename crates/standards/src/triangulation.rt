@@ -57,8 +57,8 @@ impl Standard for TriangulationStandard {
     fn leg_classes(&self, rule: u8, finding: &LegFinding) -> ClassSet {
         match rule {
             0 => at_least(finding.readings.a, POSITIONS),
-            1 => at_most(finding.readings.b as u64, DEVIATION),
-            2 => at_most(finding.readings.c as u64, LEAST_COUNT),
+            1 => at_most(finding.readings.b.into(), DEVIATION),
+            2 => at_most(finding.readings.c.into(), LEAST_COUNT),
             _ => ClassSet::all(),
         }
     }

@@ -49,7 +49,7 @@ impl ClassSet {
         ensures value { result ≡ least (holds self) }
         ensures least { Least (holds self) result }
     {
-        Class::new(self.bits.trailing_zeros() as u8 + 1)
+        Class::try_from(self.bits.trailing_zeros() as u8 + 1).ok()
     }
 
     pub fn count(self) -> u32

@@ -9,5 +9,5 @@ use Rattle.standards.proofs.class_set.ClassSet.best.Goals as goal
 pub returns : goal.returns
 returns c =
     let set = c.args.self in
-    let value : c.new.result ≡ least (holds set) = c.new.ensures.value ∙ zeros_least set.bits set.five in
+    let value : c.ok.result ≡ least (holds set) = c.ok.ensures.value ∙ c.try_from.ensures.0 ∙ zeros_least set.bits set.five in
     record { value = value; least = subst (Least (holds set)) (sym value) (least_is (holds set)) }
