@@ -1,2 +1,2 @@
 pub mod Grades
-pub mod Paths
+pub mod Closures

@@ -105,7 +105,7 @@ pub fn whole_finding<Q: Quantity, S>(book: &Book<Q, S>) -> WholeFinding
 }
 
 // What the leg with a number shows, if it stands.
-pub fn leg_finding<Q: Quantity, S>(book: &Book<Q, S>, number: u8) -> Option<LegFinding>
+pub fn leg_finding<Q: Quantity, S>(book: &Book<Q, S>, number: u16) -> Option<LegFinding>
     ensures { result ≡ leg_item (Q.Quantity.meaning book.now.quantity) (surveyed book.now) number }
 {
     match book.legs.get(&number) {
@@ -115,7 +115,7 @@ pub fn leg_finding<Q: Quantity, S>(book: &Book<Q, S>, number: u8) -> Option<LegF
 }
 
 // What the circuit with a number shows, if it stands.
-pub fn circuit_finding<Q: Quantity, S>(book: &Book<Q, S>, number: u8) -> Option<CircuitFinding>
+pub fn circuit_finding<Q: Quantity, S>(book: &Book<Q, S>, number: u16) -> Option<CircuitFinding>
     ensures { result ≡ circuit_item (Q.Quantity.meaning book.now.quantity) (surveyed book.now) number }
 {
     match book.circuits.get(&number) {

@@ -21,7 +21,6 @@ use standards::gathering::gather;
 use standards::standard::Standard;
 use std::alloc::Global;
 use survey::book::Book;
-use survey::making::refuse;
 
 // The classes that every rule meets on every finding.
 fn met<S: Standard>(
@@ -42,11 +41,11 @@ pub fn check_grade<Q: Quantity, S: Standard>(book: &Book<Q, S>) -> Result<(), Re
     ensures { result ≡ unless (first (grade_refusals (Q.Quantity.meaning book.now.quantity) (S.Standard.meaning book.now.standard) (surveyed book.now))) tt }
 {
     if book.legs.is_empty() {
-        return Err(refuse(Reason::NoLeg, 0));
+        return Err(Reason::NoLeg.at(0));
     }
     match loose_leg(book) {
         None => Ok(()),
-        Some(leg) => Err(refuse(Reason::Loose, leg as u32)),
+        Some(leg) => Err(Reason::Loose.at(leg.into())),
     }
 }
 

@@ -6,7 +6,7 @@ ghost use Rattle.survey.specs.Books.{surveyed};
 use survey::book::Book;
 
 // The lowest leg that no circuit uses.
-pub fn loose_leg<Q, S>(book: &Book<Q, S>) -> Option<u8>
+pub fn loose_leg<Q, S>(book: &Book<Q, S>) -> Option<u16>
     ensures { result ≡ loose_leg (surveyed book.now) }
 {
     'legs: for number in book.legs.keys() {

@@ -28,7 +28,7 @@ impl Place {
 }
 
 // A miss of the rule, which is counted from 0; the word counts it from 1.
-fn miss_word(class: Class, place: Place, rule: u8, item: u8) -> u32
+fn miss_word(class: Class, place: Place, rule: u8, item: u16) -> u32
     requires { rule < 255 }
     ensures { result ≡ miss_word class (place_number place) (suc rule) item }
 {
@@ -36,7 +36,7 @@ fn miss_word(class: Class, place: Place, rule: u8, item: u8) -> u32
         + ((class.number() as u32) << 24)
         + (place.number() << 20)
         + ((rule as u32 + 1) << 12)
-        + item as u32
+        + u32::from(item)
 }
 
 // Lists the rules that the finding misses at the class: a word for each, from an index on, as far as there are words. Says where the
@@ -45,7 +45,7 @@ pub(crate) fn list_misses<S: Standard, F: Finding>(
     standard: &S,
     class: Class,
     place: Place,
-    item: u8,
+    item: u16,
     finding: &F,
     words: &mut [u32],
     start: usize,

@@ -15,7 +15,6 @@ use standards::class::Class;
 use standards::finding::LegFinding;
 use standards::standard::Standard;
 use survey::book::Book;
-use survey::making::refuse;
 
 // Lists the misses of the legs from an index on, as far as there are words, and says where the list ends.
 fn list_legs<Q: Quantity, S: Standard>(
@@ -99,13 +98,11 @@ pub fn misses<Q: Quantity, S: Standard>(
     ensures answer { AnswersAlways is_listed (step Q.Quantity.meaning S.Standard.meaning (listing class words.old) (plain_book book.now)) (plain_book book.now) result }
     ensures words { words.new ≡ (step Q.Quantity.meaning S.Standard.meaning (listing class words.old) (plain_book book.now)).words }
 {
-    let Some(class) = Class::new(class) else {
-        return Err(refuse(Reason::NoClass, 0));
-    };
+    let class = Class::try_from(class)?;
     check_grade(book)?;
     let count = list_all(book, class, &mut []);
     if words.len() < count {
-        return Err(refuse(Reason::TooFew, count as u32));
+        return Err(Reason::TooFew.at(count as u32));
     }
     Ok(list_all(book, class, words))
 }

@@ -1,5 +1,5 @@
 -- What joining a circuit answers, and that the book stays sound. Assumes nothing.
-use Rattle.std.proofs.Common.{◌≡◌, ℕ, ◌-◌, ◌≤◌, Bool, true, false, cond, T, eqb, List, [], ◌∷◌, ◌++◌, length, get_or, take, drop, is_some, Some, None, Ok, Err, Option, Result, OnOk, OnErr, sym, refl, ap, ◌∙◌, arith}
+use Rattle.std.proofs.Common.{◌≡◌, ℕ, true, false, T, eqb, List, [], ◌∷◌, ◌++◌, is_some, Some, None, Ok, Err, Option, Result, OnOk, OnErr, sym, refl, ap, ◌∙◌, arith}
 use Rattle.std.specs.declared.alloc.AllocFailed.{AllocFailed as NoPlace}
 use Rattle.std.specs.BTreeMap.{BTreeMap}
 use Rattle.std.specs.BTreeMap.{IsUnchanged, Updates}
@@ -8,12 +8,10 @@ use Rattle.std.specs.Ordering.{nat_cmp}
 use Rattle.records.specs.declared.circuit.Circuit.{Circuit}
 use Rattle.records.specs.declared.refusal.Fault.{Fault}
 use Rattle.records.specs.declared.refusal.Fault.TheVariants.{Refused, Memory}
-use Rattle.records.specs.declared.refusal.Reason.TheVariants.{Layout, Range, Taken}
+use Rattle.records.specs.declared.refusal.Reason.TheVariants.{Taken}
 use Rattle.records.specs.declared.refusal.Refusal.{Refusal}
-use Rattle.records.specs.Circuits.{CircuitRecord, circuit_record, circuit_decoded, circuit_read, circuit_refusals, circuit_unranged, head_ranged, use_unranged}
-use Rattle.records.specs.Layouts.{misplaced, circuit_layout}
-use Rattle.records.specs.Refusals.{first, refusal, unless, Gives}
-use Rattle.records.proofs.Circuits.{three_up, few_uses}
+use Rattle.records.specs.Circuits.{CircuitRecord, circuit_record, circuit_decoded, circuit_read, circuit_refusals}
+use Rattle.records.specs.Refusals.{first, unless, Gives}
 use Rattle.quantities.specs.Acceptance.{due_refusals}
 use Rattle.quantities.specs.Terms.{Terms}
 use Rattle.standards.specs.Acceptance.{form_refusals}
@@ -22,7 +20,7 @@ use Rattle.plainbook.specs.Findings.{form}
 use Rattle.plainbook.specs.Refusals.{chain_refusals, refused_if, join_refusals}
 use Rattle.plainbook.specs.Steps.{with_circuit}
 use Rattle.plainbook.specs.Surveys.{Survey, runs}
-use Rattle.plainbook.proofs.Firsts.{first_none, first_append, no_place}
+use Rattle.plainbook.proofs.Firsts.{first_append}
 use Rattle.plainbook.proofs.Invariant.{join_sound}
 use Rattle.survey.specs.declared.book.Book.{Book}
 use Rattle.survey.specs.Books.{surveyed}
@@ -30,24 +28,6 @@ use Rattle.survey.specs.Numbered.{every, Numbered}
 use Rattle.survey.specs.Standing.{standing_circuits, chains_over}
 use Rattle.survey.proofs.Outcomes.{first_after, first_at, after_all, within, refused_where, not_refused}
 use Rattle.survey.proofs.Soundness.{sound, chained, read_sets, read_unchanged}
-
--- words that are not refused are laid out and in range
-module _ (ws : List ℕ) (read : first (circuit_refusals ws) ≡ None) where
-  laid : misplaced 0 circuit_layout ws ≡ None
-  laid = no_place Layout _ (first_none (refusal Layout (misplaced 0 circuit_layout ws)) (refusal Range (circuit_unranged ws) ∷ []) read).0
-
-  pub uses_ranged : use_unranged 2 (drop 2 ws) ≡ None
-  uses_ranged = go (head_ranged (get_or ws 0 0)) (no_place Range _ (first_none (refusal Range (circuit_unranged ws)) [] (first_none (refusal Layout (misplaced 0 circuit_layout ws)) (refusal Range (circuit_unranged ws) ∷ []) read).1).0)
-    where
-      go : (b : Bool) → cond b (use_unranged 2 (drop 2 ws)) (Some 0) ≡ None → use_unranged 2 (drop 2 ws) ≡ None
-      go true e = e
-      go false e = let z : ◌≡◌ {A = ℕ} 0 1 = cc in absurd (omega arith)
-
-  pub some_uses : 3 ≤ length ws
-  some_uses = three_up ws laid
-
-  pub few : length (take (length ws - 2) (drop 2 ws)) ≤ 16
-  few = few_uses ws laid
 
 module _ {Element : Type 0} (q : Terms Element) (s : Rules) (p : Survey) (ws : List ℕ) where
   abbrev circuit : CircuitRecord

@@ -7,5 +7,6 @@ pub mod Soundness
 pub mod Strikes
 pub mod Entering
 pub mod Naming
+pub mod Paths
 pub mod Walking
 pub mod Joining

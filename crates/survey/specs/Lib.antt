@@ -1,4 +1,5 @@
 pub mod Numbered
 pub mod Standing
 pub mod Books
-pub mod Chaining
+pub mod Runs
+pub mod Paths

@@ -18,8 +18,8 @@ mod uses;
 pub struct Book<Q, S> {
     pub quantity: Q,
     pub standard: S,
-    pub legs: BTreeMap<u8, Leg>,
-    pub circuits: BTreeMap<u8, Circuit>,
+    pub legs: BTreeMap<u16, Leg>,
+    pub circuits: BTreeMap<u16, Circuit>,
     // numbers are in order and in range, and each value has its own
     ghost legs_numbered: { Numbered 128 legs } by { Prim.hlevel props },
     ghost circuits_numbered: { Numbered 32 circuits } by { Prim.hlevel props },

@@ -2,5 +2,5 @@
 #![tactic(auto)]
 
 pub mod book;
-pub mod making;
-pub mod nodes;
+pub mod path;
+pub mod run;

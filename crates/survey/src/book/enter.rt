@@ -7,7 +7,6 @@ ghost use Rattle.plainbook.specs.Steps.{step, entering};
 ghost use Rattle.survey.specs.Books.{plain_book, surveyed, Answers, is_done};
 
 use super::Book;
-use crate::making::refuse;
 use quantities::acceptance as measures;
 use quantities::quantity::Quantity;
 use records::leg::Leg;
@@ -24,7 +23,7 @@ impl<Q: Quantity + Drop, S: Standard + Drop> Book<Q, S> {
         measures::accept_leg(&self.quantity, &leg)?;
         observations::accept_leg(&self.standard, &leg)?;
         if self.legs.contains_key(&leg.number.value) {
-            return Err(refuse(Reason::Taken, 0));
+            return Err(Reason::Taken.at(0));
         }
         Ok(leg)
     }

@@ -6,8 +6,6 @@ ghost use Rattle.plainbook.specs.Steps.{step, joining};
 ghost use Rattle.survey.specs.Books.{plain_book, surveyed, Answers, is_done};
 
 use super::Book;
-use super::chain::FIRST_USE;
-use crate::making::refuse;
 use quantities::acceptance::accept_due;
 use quantities::quantity::Quantity;
 use records::circuit::Circuit;
@@ -23,10 +21,10 @@ impl<Q: Quantity + Drop, S: Standard + Drop> Book<Q, S> {
     {
         let head = Circuit::head(words)?;
         if self.circuits.contains_key(&head.number.value) {
-            return Err(refuse(Reason::Taken, 0));
+            return Err(Reason::Taken.at(0));
         }
         accept_due(&self.quantity, head.due)?;
-        let form = self.chain(&words[FIRST_USE as usize..])?;
+        let form = self.chain(&head.uses)?;
         accept_form(&self.standard, form)
     }
 

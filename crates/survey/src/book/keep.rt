@@ -1,34 +1,27 @@
 // A book opened, and legs and circuits struck from it.
-ghost use Rattle.std.specs.Prelude.{◌≡◌, ◌≤◌, not};
+ghost use Rattle.std.specs.Prelude.{◌≡◌, not};
 ghost use Rattle.records.specs.declared.refusal.Reason.TheVariants.{Range};
 ghost use Rattle.records.specs.Ranges.{between};
-ghost use Rattle.records.specs.Refusals.{unless};
+ghost use Rattle.records.specs.Refusals.{unless, seen};
 ghost use Rattle.plainbook.specs.Refusals.{refused_if};
 ghost use Rattle.plainbook.specs.Steps.{opened, step, striking_leg, striking_circuit};
 ghost use Rattle.survey.specs.Books.{plain_book, AnswersAlways, is_done};
 
 use super::Book;
-use crate::making::refuse;
 use quantities::quantity::Quantity;
+use records::number::{CircuitNumber, LegNumber, Number};
 use records::refusal::{Reason, Refusal};
 use standards::standard::Standard;
 use std::alloc::Global;
 use std::collections::BTreeMap;
 
-// The greatest numbers of a leg and of a circuit.
-const LEGS: u32 = 128;
-
-const CIRCUITS: u32 = 32;
-
-// A number from 1 to the greatest.
-fn numbered(number: u32, greatest: u32) -> Result<u8, Refusal>
-    requires { greatest ≤ 255 }
-    ensures { result ≡ unless (refused_if Range 0 (not (between 1 greatest number))) number }
+// A number in the range of its kind.
+fn numbered<const GREATEST: u16>(number: u32) -> Result<Number<GREATEST>, Refusal>
+    ensures { seen (λ n. n.value) result ≡ unless (refused_if Range 0 (not (between 1 GREATEST number))) number }
 {
-    if 1 <= number && number <= greatest {
-        Ok(number as u8)
-    } else {
-        Err(refuse(Reason::Range, 0))
+    match u16::try_from(number) {
+        Ok(number) => Number::new(number).ok_or(Reason::Range.at(0)),
+        Err(_) => Err(Reason::Range.at(0)),
     }
 }
 
@@ -47,12 +40,12 @@ impl<Q: Quantity + Drop, S: Standard + Drop> Book<Q, S> {
     pub fn strike_leg(&mut self, number: u32) -> Result<(), Refusal>
         ensures { AnswersAlways is_done (step Q.Quantity.meaning S.Standard.meaning (striking_leg number) (plain_book self.old)) (plain_book self.new) result }
     {
-        let number = numbered(number, LEGS)?;
+        let LegNumber { value: number } = numbered(number)?;
         if !self.legs.contains_key(&number) {
-            return Err(refuse(Reason::Absent, 0));
+            return Err(Reason::Absent.at(0));
         }
         if let Some(circuit) = self.user_of(number) {
-            return Err(refuse(Reason::InUse, circuit as u32));
+            return Err(Reason::InUse.at(circuit.into()));
         }
         let _ = self.legs.remove(&number);
         Ok(())
@@ -61,9 +54,9 @@ impl<Q: Quantity + Drop, S: Standard + Drop> Book<Q, S> {
     pub fn strike_circuit(&mut self, number: u32) -> Result<(), Refusal>
         ensures { AnswersAlways is_done (step Q.Quantity.meaning S.Standard.meaning (striking_circuit number) (plain_book self.old)) (plain_book self.new) result }
     {
-        let number = numbered(number, CIRCUITS)?;
+        let CircuitNumber { value: number } = numbered(number)?;
         if !self.circuits.contains_key(&number) {
-            return Err(refuse(Reason::Absent, 0));
+            return Err(Reason::Absent.at(0));
         }
         let _ = self.circuits.remove(&number);
         Ok(())

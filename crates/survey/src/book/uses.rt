@@ -7,7 +7,7 @@ use super::Book;
 
 impl<Q, S> Book<Q, S> {
     // The lowest circuit that uses the leg.
-    pub fn user_of(&self, leg: u8) -> Option<u8>
+    pub fn user_of(&self, leg: u16) -> Option<u16>
         ensures { result ≡ user (surveyed self.now) leg }
     {
         for (number, circuit) in self.circuits.iter() {

@@ -12,7 +12,7 @@ returns-then-is_empty g c =
     let q = g.Q.Quantity.meaning b.quantity in
     let s = g.S.Standard.meaning b.standard in
     let none = any_is b ∙ ap not (eq-eqb (length b.legs.entries) 0 (c.is_empty.ensures.0 c.if-is_empty.true)) in
-    ap Err c.refuse.ensures ∙ sym (ap (λ o. unless o tt) (no_leg q s (surveyed b) none))
+    ap Err c.at.ensures ∙ sym (ap (λ o. unless o tt) (no_leg q s (surveyed b) none))
 
 pub returns-in-None : goal.returns-in-None
 returns-in-None g c =
@@ -28,4 +28,4 @@ returns-in-Some g c =
     let q = g.Q.Quantity.meaning b.quantity in
     let s = g.S.Standard.meaning b.standard in
     let any = any_is b ∙ ap not (ne_eqb (length b.legs.entries) 0 (λ e. false≢true (sym c.if-is_empty.false ∙ c.is_empty.ensures.1 e))) in
-    ap Err c.refuse-in-Some.ensures ∙ sym (ap (λ o. unless o tt) (some_leg q s (surveyed b) (Some c.in-Some.leg) any (sym c.in-Some.ensures)))
+    ap Err c.at-in-Some.ensures ∙ sym (ap (λ o. unless o tt) (some_leg q s (surveyed b) (Some c.in-Some.leg) any (sym c.in-Some.ensures)))

@@ -15,7 +15,7 @@ returns-in_default g c =
     let ws = c.args.words.now in
     let q = g.Q.Quantity.meaning b.quantity in
     let s = g.S.Standard.meaning b.standard in
-    let out = refused g.Q.Quantity.meaning g.S.Standard.meaning (plain_book b) n ws _ (no_class q s (surveyed b) n (length ws) (sym c.in_default.ensures.value) ∙ ap Some (sym c.refuse.ensures)) in
+    let out = refused g.Q.Quantity.meaning g.S.Standard.meaning (plain_book b) n ws _ (no_class q s (surveyed b) n (length ws) (sym c.in_default.ensures.value) ∙ ap Some (sym c.at.ensures)) in
     record { answer = out.0; words = out.1 }
 
 pub returns-in_err-check_grade : goal.returns-in_err-check_grade
@@ -43,7 +43,7 @@ returns-then-words-count g c =
     let ws = c.args.words.now in
     let q = g.Q.Quantity.meaning b.quantity in
     let s = g.S.Standard.meaning b.standard in
-    let out = refused g.Q.Quantity.meaning g.S.Standard.meaning (plain_book b) n ws _ (too_few q s (surveyed b) n (length ws) c.in-Some.class (sym c.in-Some.ensures.value) (was_given _ tt _ c.in_ok-check_grade.ensures).0 c.list_all-count.result c.list_all-count.ensures.count (lt-ltb _ _ c.if-words-count.true) ∙ ap Some (sym c.refuse-then-words-count.ensures)) in
+    let out = refused g.Q.Quantity.meaning g.S.Standard.meaning (plain_book b) n ws _ (too_few q s (surveyed b) n (length ws) c.in-Some.class (sym c.in-Some.ensures.value) (was_given _ tt _ c.in_ok-check_grade.ensures).0 c.list_all-count.result c.list_all-count.ensures.count (lt-ltb _ _ c.if-words-count.true) ∙ ap Some (sym c.at-then-words-count.ensures)) in
     record { answer = out.0; words = out.1 }
 
 pub returns : goal.returns

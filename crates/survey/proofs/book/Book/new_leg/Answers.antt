@@ -56,7 +56,7 @@ returns-then-contains_key g c =
     let observed = ap (λ (l : LegRecord). first (observation_refusals s l)) (sym read.1) ∙ (was_given _ tt _ c.in_ok-accept_leg-2.ensures.value).0 in
     let stands = mapped_isSome leg_record (table b.legs n) ∙ sym c.contains_key.ensures ∙ c.if-contains_key.true in
     let taken = ap (λ (l : LegRecord). is_some (standing_legs b.legs l.number)) (sym read.1) ∙ stands in
-    ap Err c.refuse.ensures ∙ sym (ap (λ o. unless o (leg_read ws)) (number_taken q s (surveyed b) ws read.0 measured observed taken))
+    ap Err c.at.ensures ∙ sym (ap (λ o. unless o (leg_read ws)) (number_taken q s (surveyed b) ws read.0 measured observed taken))
 
 pub returns : goal.returns
 returns g c =

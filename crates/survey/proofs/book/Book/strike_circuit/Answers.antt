@@ -24,7 +24,7 @@ returns-then-not-contains_key g c =
     let given = was_given _ n _ c.in_ok-number.ensures in
     let absent = mapped_isSome circuit_record (table b.circuits n) ∙ ap (λ k. is_some (table b.circuits k)) (sym given.1) ∙ sym c.contains_key.ensures ∙ c.if-not-contains_key.true in
     refuses_always is_done (plain_book b) [] done (with_circuit (surveyed b) n None) [] (first (strike_circuit_refusals q s (surveyed b) n)) _
-    (circuit_absent q s (surveyed b) n given.0 absent ∙ ap Some (sym c.refuse.ensures))
+    (circuit_absent q s (surveyed b) n given.0 absent ∙ ap Some (sym c.at.ensures))
 
 pub invariant_of-self : goal.invariant_of-self
 invariant_of-self g c =

@@ -2,6 +2,7 @@ use Rattle.std.proofs.Common.{is_some, [], Some, None, sym, refl, ap, ◌∙◌,
 use Rattle.records.specs.Legs.{leg_record}
 use Rattle.std.specs.BTreeMap.{Updates}
 use Rattle.std.specs.Ordering.{nat_cmp}
+use Rattle.records.specs.declared.refusal.Reason.TheVariants.{InUse}
 use Rattle.records.specs.Refusals.{first}
 use Rattle.plainbook.specs.Refusals.{strike_leg_refusals}
 use Rattle.plainbook.specs.Steps.{done, with_leg}
@@ -25,7 +26,7 @@ returns-then-not-contains_key g c =
     let given = was_given _ n _ c.in_ok-number.ensures in
     let absent = mapped_isSome leg_record (table b.legs n) ∙ ap (λ k. is_some (table b.legs k)) (sym given.1) ∙ sym c.contains_key.ensures ∙ c.if-not-contains_key.true in
     refuses_always is_done (plain_book b) [] done (with_leg (surveyed b) n None) [] (first (strike_leg_refusals q s (surveyed b) n)) _
-    (leg_absent q s (surveyed b) n given.0 absent ∙ ap Some (sym c.refuse.ensures))
+    (leg_absent q s (surveyed b) n given.0 absent ∙ ap Some (sym c.at.ensures))
 
 pub returns-in-Some : goal.returns-in-Some
 returns-in-Some g c =
@@ -37,7 +38,7 @@ returns-in-Some g c =
     let stands = mapped_isSome leg_record (table b.legs n) ∙ ap (λ k. is_some (table b.legs k)) (sym given.1) ∙ sym c.contains_key.ensures ∙ c.if-not-contains_key.false in
     let used = ap (user (surveyed b)) (sym given.1) ∙ sym c.in-Some.ensures in
     refuses_always is_done (plain_book b) [] done (with_leg (surveyed b) n None) [] (first (strike_leg_refusals q s (surveyed b) n)) _
-    (leg_used q s (surveyed b) n given.0 (Some c.in-Some.circuit) stands used ∙ ap Some (sym c.refuse-in-Some.ensures))
+    (leg_used q s (surveyed b) n given.0 (Some c.in-Some.circuit) stands used ∙ ap Some (ap (λ n. record { reason = InUse; place = n }) (sym c.into.ensures) ∙ sym c.at-in-Some.ensures))
 
 pub invariant_of-self : goal.invariant_of-self
 invariant_of-self g c =
