@@ -1,5 +1,5 @@
 -- Along a circuit's legs: what is so far, and what is left, decide the finding. Assumes nothing.
-use Rattle.std.proofs.Common.{◌≡◌, ℕ, ◌+◌, ◌<◌, ◌≤◌, Bool, false, eqb, List, [], ◌∷◌, ◌++◌, map, length, get_or, drop, Some, None, Option, sym, refl, ap, ◌∙◌, ap₂, arith}
+use Rattle.std.proofs.Common.{◌≡◌, ℕ, ◌+◌, ◌<◌, ◌≤◌, List, [], ◌∷◌, ◌++◌, map, length, get_or, drop, Some, None, Option, sym, refl, ap, ◌∙◌, ap₂, arith}
 use Rattle.std.specs.Option.{option_to_list}
 use Rattle.std.proofs.lemmas.List.{at_drop_more, at_drop_all}
 use Rattle.records.specs.declared.circuit.LegUse.{LegUse}
@@ -12,34 +12,11 @@ use Rattle.quantities.specs.Terms.{Terms}
 use Rattle.standards.specs.declared.finding.CircuitFinding.{CircuitFinding}
 use Rattle.standards.specs.declared.finding.Form.{Form}
 use Rattle.plainbook.specs.Findings.{joined, form, total_length, circuit_running, contribution, own_misclosure, runs_finding}
-use Rattle.plainbook.specs.Surveys.{Run, runs, run_of, closed, last_node}
-use Rattle.grading.specs.declared.path.Path.{Path}
-use Rattle.grading.specs.Paths.{followed, path_form, closure_where}
-
--- ---- the form of a path that goes on
-abbrev closes : Option (ℕ × ℕ) → List Run → Bool
-closes None rs = closed rs
-closes (Some nodes) rs = eqb nodes.0 (last_node nodes.1 rs)
-
-abbrev pub form_after : Path → List Run → Form
-form_after p rs = record { closed = closes p.nodes rs; legs = p.legs + length rs }
-
-pub form_start : (rs : List Run) → form_after (record { nodes = None; legs = 0 }) rs ≡ form rs
-form_start rs = let e : 0 + length rs ≡ length rs = omega arith in λ i. record { closed = closed rs; legs = e i }
-
-pub form_more : (p : Path) (r : Run) (rs : List Run) → form_after (followed p r) rs ≡ form_after p (r ∷ rs)
-form_more p r rs = go p.nodes p.legs
-  where
-    go : (o : Option (ℕ × ℕ)) (n : ℕ) → form_after (followed (record { nodes = o; legs = n }) r) rs ≡ form_after (record { nodes = o; legs = n }) (r ∷ rs)
-    go None n = let e : n + 1 + length rs ≡ n + length (r ∷ rs) = omega arith in λ i. record { closed = closed (r ∷ rs); legs = e i }
-    go (Some nodes) n = let e : n + 1 + length rs ≡ n + length (r ∷ rs) = omega arith in λ i. record { closed = closes (Some nodes) (r ∷ rs); legs = e i }
-
-pub form_end : (p : Path) → path_form p ≡ form_after p []
-form_end p = go p.nodes p.legs
-  where
-    go : (o : Option (ℕ × ℕ)) (n : ℕ) → path_form (record { nodes = o; legs = n }) ≡ form_after (record { nodes = o; legs = n }) []
-    go None n = let e : n ≡ n + 0 = omega arith in λ i. record { closed = false; legs = e i }
-    go (Some nodes) n = let e : n ≡ n + 0 = omega arith in λ i. record { closed = eqb nodes.0 nodes.1; legs = e i }
+use Rattle.plainbook.specs.Surveys.{Run, runs, run_of, closed}
+use Rattle.survey.specs.declared.path.Path.{Path}
+use Rattle.survey.specs.Paths.{followed, path_form}
+use Rattle.survey.proofs.Paths.{form_after, form_start, form_more, form_end}
+use Rattle.grading.specs.Closures.{closure_where}
 
 -- ---- running, and sums
 pub joined_more : (a b c : Running) → joined (joined a b) c ≡ joined a (joined b c)
@@ -74,11 +51,11 @@ module _ {Element : Type 0} (q : Terms Element) where
       }
 
   pub far_more : (p p' : Path) (m : ℕ) (run run' : Running) (x x' y y' : Element) (r : Run) (rest all : List Run) → SoFar q p m run x y (r ∷ rest) all
-      → p' ≡ followed p r → run' ≡ joined run (running r.leg.back) → x' ≡ q.plus x (contribution q r) → y' ≡ q.plus y (own_misclosure q r.leg)
+      → p.legs < 255 → p' ≡ followed p r → run' ≡ joined run (running r.leg.back) → x' ≡ q.plus x (contribution q r) → y' ≡ q.plus y (own_misclosure q r.leg)
       → SoFar q p' (m + r.leg.length.metres) run' x' y' rest all
-  far_more p p' m run run' x x' y y' r rest all h ep er ex ey =
+  far_more p p' m run run' x x' y y' r rest all h few ep er ex ey =
       record {
-        form = ap (λ p. form_after p rest) ep ∙ form_more p r rest ∙ h.form;
+        form = ap (λ p. form_after p rest) ep ∙ form_more p r rest few ∙ h.form;
         length = omega (arith, h.length);
         running = ap (λ a. joined a (circuit_running rest)) er ∙ joined_more run _ _ ∙ h.running;
         closure = ap (λ x. q.plus x (total q (map (contribution q) rest))) ex ∙ q.plus_assoc _ _ _ ∙ h.closure;

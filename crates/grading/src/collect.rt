@@ -6,6 +6,8 @@ ghost use Rattle.survey.specs.Books.{surveyed};
 
 use crate::findings::finding_of;
 use quantities::quantity::Quantity;
+use records::circuit::Circuit;
+use records::leg::Leg;
 use records::refusal::Fault;
 use standards::finding::{CircuitFinding, LegFinding};
 use std::alloc::Global;
@@ -17,11 +19,8 @@ pub fn leg_findings<Q: Quantity, S>(
 ) -> Result<Vec<LegFinding>, Fault>
     ensures { MatchResult result (λ v. v.items ≡ leg_findings (Q.Quantity.meaning book.now.quantity) (surveyed book.now)) (λ e. e ≡ Memory) }
 {
-    let mut findings = Vec::new(heap);
-    for leg in book.legs.values() {
-        findings.push(LegFinding::of(&book.quantity, leg))?;
-    }
-    Ok(findings)
+    let show = |leg: &Leg| LegFinding::of(&book.quantity, leg);
+    Ok(book.legs.values().map(show).collect(heap)?)
 }
 
 pub fn circuit_findings<Q: Quantity, S>(
@@ -30,9 +29,6 @@ pub fn circuit_findings<Q: Quantity, S>(
 ) -> Result<Vec<CircuitFinding>, Fault>
     ensures { MatchResult result (λ v. v.items ≡ circuit_findings (Q.Quantity.meaning book.now.quantity) (surveyed book.now)) (λ e. e ≡ Memory) }
 {
-    let mut findings = Vec::new(heap);
-    for circuit in book.circuits.values() {
-        findings.push(finding_of(book, circuit))?;
-    }
-    Ok(findings)
+    let show = |circuit: &Circuit| finding_of(book, circuit);
+    Ok(book.circuits.values().map(show).collect(heap)?)
 }

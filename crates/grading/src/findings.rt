@@ -5,15 +5,17 @@ ghost use Rattle.records.specs.Legs.{leg_record};
 ghost use Rattle.plainbook.specs.Findings.{contribution, own_misclosure, joined, circuit_finding, the_whole};
 ghost use Rattle.plainbook.specs.Promise.{leg_item, circuit_item};
 ghost use Rattle.survey.specs.Books.{surveyed};
-ghost use Rattle.grading.specs.Paths.{closure_where};
+ghost use Rattle.survey.specs.Runs.{run_record};
+ghost use Rattle.grading.specs.Closures.{closure_where};
 
-use crate::path::Path;
 use quantities::quantity::Quantity;
 use records::circuit::{Circuit, Sense};
 use records::leg::{Leg, Length, Running};
 use records::word::Payload;
 use standards::finding::{CircuitFinding, LegFinding, WholeFinding};
 use survey::book::Book;
+use survey::path::Path;
+use survey::run::Run;
 
 // Single if either is single.
 fn joined(first: Running, second: Running) -> Running
@@ -26,11 +28,11 @@ fn joined(first: Running, second: Running) -> Running
 }
 
 // What a leg adds to a circuit: opposite where it is run against.
-fn contribution<Q: Quantity>(quantity: &Q, leg: &Leg, sense: Sense) -> Q::Element
-    ensures { result ≡ contribution (Q.Quantity.meaning quantity.now) (record { leg = leg_record leg.now; sense = sense }) }
+fn contribution<Q: Quantity>(quantity: &Q, run: &Run<'_>) -> Q::Element
+    ensures { result ≡ contribution (Q.Quantity.meaning quantity.now) (run_record run.now) }
 {
-    let along = quantity.contribution(leg.value, leg.back);
-    match sense {
+    let along = quantity.contribution(run.leg.value, run.leg.back);
+    match run.sense {
         Sense::Along => along,
         Sense::Against => quantity.opposite(along),
     }
@@ -58,33 +60,29 @@ fn closure<Q: Quantity>(quantity: &Q, closed: bool, contributions: Q::Element, d
 pub fn finding_of<Q: Quantity, S>(book: &Book<Q, S>, circuit: &Circuit) -> CircuitFinding
     ensures { result ≡ circuit_finding (Q.Quantity.meaning book.now.quantity) (surveyed book.now) (circuit_record circuit.now) }
 {
+    let quantity = &book.quantity;
     let mut path = Path::new();
     let mut metres = 0;
     let mut running = Running::Double;
-    let mut contributions = book.quantity.zero();
-    let mut misclosures = book.quantity.zero();
+    let mut contributions = quantity.zero();
+    let mut misclosures = quantity.zero();
     for used in circuit.legs.iter() {
-        let Some(leg) = book.legs.get(&used.leg.value) else {
+        let Some(run) = book.run(*used) else {
             continue;
         };
-        path = path.follow(leg, used.sense);
-        metres += leg.length.metres;
-        running = joined(running, leg.running());
-        contributions = book.quantity.sum(
-            contributions,
-            contribution(&book.quantity, leg, used.sense),
-        );
-        misclosures = book
-            .quantity
-            .sum(misclosures, own_misclosure(&book.quantity, leg));
+        path = path.follow(&run);
+        metres += run.leg.length.metres;
+        running = joined(running, run.leg.running());
+        contributions = quantity.sum(contributions, contribution(quantity, &run));
+        misclosures = quantity.sum(misclosures, own_misclosure(quantity, run.leg));
     }
     let form = path.form();
     CircuitFinding {
         form,
         length: Length { metres },
         running,
-        closure: closure(&book.quantity, form.closed, contributions, circuit.due),
-        misclosure: book.quantity.size(misclosures),
+        closure: closure(quantity, form.closed, contributions, circuit.due),
+        misclosure: quantity.size(misclosures),
     }
 }
 
@@ -108,18 +106,14 @@ pub fn whole_finding<Q: Quantity, S>(book: &Book<Q, S>) -> WholeFinding
 pub fn leg_finding<Q: Quantity, S>(book: &Book<Q, S>, number: u16) -> Option<LegFinding>
     ensures { result ≡ leg_item (Q.Quantity.meaning book.now.quantity) (surveyed book.now) number }
 {
-    match book.legs.get(&number) {
-        None => None,
-        Some(leg) => Some(LegFinding::of(&book.quantity, leg)),
-    }
+    let leg = book.legs.get(&number)?;
+    Some(LegFinding::of(&book.quantity, leg))
 }
 
 // What the circuit with a number shows, if it stands.
 pub fn circuit_finding<Q: Quantity, S>(book: &Book<Q, S>, number: u16) -> Option<CircuitFinding>
     ensures { result ≡ circuit_item (Q.Quantity.meaning book.now.quantity) (surveyed book.now) number }
 {
-    match book.circuits.get(&number) {
-        None => None,
-        Some(circuit) => Some(finding_of(book, circuit)),
-    }
+    let circuit = book.circuits.get(&number)?;
+    Some(finding_of(book, circuit))
 }

@@ -6,4 +6,3 @@ pub mod findings;
 pub mod grade;
 pub mod judge;
 pub mod loose;
-mod path;

@@ -1,18 +1,17 @@
-use Rattle.std.proofs.Common.{vec_items, sym, ◌∙◌}
+use Rattle.std.proofs.Common.{rules, ◌≡◌, length, Ok, vec_len, sym, ◌∙◌}
+use Rattle.std.specs.BTreeMap.{values}
+use Rattle.std.proofs.lemmas.Iterator.{YieldsList-from_map}
+use Rattle.std.proofs.lemmas.Iterator.Adapters.{fact_from_collect}
+use Rattle.std.proofs.lemmas.Iterator.Consumers.{YieldsList-from_rest}
 use Rattle.records.specs.Circuits.{circuit_record}
 use Rattle.plainbook.specs.Findings.{circuit_finding}
 use Rattle.survey.specs.Books.{surveyed}
-use Rattle.grading.proofs.Collecting.{map_turn, map_end, circuits_found}
+use Rattle.grading.proofs.Collecting.{circuits_found}
 use Rattle.grading.proofs.collect.circuit_findings.Goals as goal
-
-pub loop-circuit-preserved : goal.loop-circuit-preserved
-loop-circuit-preserved g c =
-    let b = c.args.book.now in
-    let q = g.Q.Quantity.meaning b.quantity in
-    map_turn (λ x. circuit_finding q (surveyed b) (circuit_record x)) (vec_items c.loop-circuit.findings) c.in_ok-push.ensures.items c.finding_of.ensures c.in-Some.ensures.steps c.loop-circuit.invariant
 
 pub returns : goal.returns
 returns g c =
     let b = c.args.book.now in
     let q = g.Q.Quantity.meaning b.quantity in
-    map_end (λ x. circuit_finding q (surveyed b) (circuit_record x)) (vec_items c.loop-circuit.findings) c.loop-circuit.circuit-iterator c.in-None.ensures.steps.0 c.loop-circuit.invariant ∙ sym (circuits_found q b)
+    let road = YieldsList-from_map _ (λ c. circuit_finding q (surveyed b) (circuit_record c)) (YieldsList-from_rest (values b.circuits) (c.map.ensures.source ∙ c.values.ensures.rest)) c.map.ensures.closure (λ x r f k. search rules) in
+    (fact_from_collect {E = Unit {0}} (λ xs v. (v.items ≡ xs) × (vec_len v ≡ length xs)) (Ok c.in_ok-collect.field-0) c.in_ok-collect.ensures.ran road).0 ∙ sym (circuits_found q b)

@@ -1,16 +1,16 @@
-use Rattle.std.proofs.Common.{vec_items, sym, ◌∙◌}
+use Rattle.std.proofs.Common.{rules, ◌≡◌, length, Ok, vec_len, sym, ◌∙◌}
+use Rattle.std.specs.BTreeMap.{values}
+use Rattle.std.proofs.lemmas.Iterator.{YieldsList-from_map}
+use Rattle.std.proofs.lemmas.Iterator.Adapters.{fact_from_collect}
+use Rattle.std.proofs.lemmas.Iterator.Consumers.{YieldsList-from_rest}
 use Rattle.records.specs.Legs.{leg_record}
 use Rattle.standards.specs.Observed.{leg_finding}
-use Rattle.grading.proofs.Collecting.{map_turn, map_end, legs_found}
+use Rattle.grading.proofs.Collecting.{legs_found}
 use Rattle.grading.proofs.collect.leg_findings.Goals as goal
-
-pub loop-leg-preserved : goal.loop-leg-preserved
-loop-leg-preserved g c =
-    let q = g.Q.Quantity.meaning c.args.book.now.quantity in
-    map_turn (λ x. leg_finding q (leg_record x)) (vec_items c.loop-leg.findings) c.in_ok-push.ensures.items c.of.ensures c.in-Some.ensures.steps c.loop-leg.invariant
 
 pub returns : goal.returns
 returns g c =
     let b = c.args.book.now in
     let q = g.Q.Quantity.meaning b.quantity in
-    map_end (λ x. leg_finding q (leg_record x)) (vec_items c.loop-leg.findings) c.loop-leg.leg-iterator c.in-None.ensures.steps.0 c.loop-leg.invariant ∙ sym (legs_found q b)
+    let road = YieldsList-from_map _ (λ l. leg_finding q (leg_record l)) (YieldsList-from_rest (values b.legs) (c.map.ensures.source ∙ c.values.ensures.rest)) c.map.ensures.closure (λ x r f k. search rules) in
+    (fact_from_collect {E = Unit {0}} (λ xs v. (v.items ≡ xs) × (vec_len v ≡ length xs)) (Ok c.in_ok-collect.field-0) c.in_ok-collect.ensures.ran road).0 ∙ sym (legs_found q b)

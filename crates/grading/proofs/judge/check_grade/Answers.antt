@@ -1,5 +1,6 @@
 use Rattle.std.proofs.Common.{not, length, Some, None, Err, sym, ap, ◌∙◌}
 use Rattle.std.proofs.lemmas.Bool.{eq-eqb, ne_eqb, false≢true}
+use Rattle.records.specs.declared.refusal.Reason.TheVariants.{Loose}
 use Rattle.records.specs.Refusals.{unless}
 use Rattle.survey.specs.Books.{surveyed}
 use Rattle.grading.proofs.Judging.{no_leg, some_leg}
@@ -28,4 +29,4 @@ returns-in-Some g c =
     let q = g.Q.Quantity.meaning b.quantity in
     let s = g.S.Standard.meaning b.standard in
     let any = any_is b ∙ ap not (ne_eqb (length b.legs.entries) 0 (λ e. false≢true (sym c.if-is_empty.false ∙ c.is_empty.ensures.1 e))) in
-    ap Err c.at-in-Some.ensures ∙ sym (ap (λ o. unless o tt) (some_leg q s (surveyed b) (Some c.in-Some.leg) any (sym c.in-Some.ensures)))
+    ap Err (c.at-in-Some.ensures ∙ ap (λ n. record { reason = Loose; place = n }) c.into.ensures) ∙ sym (ap (λ o. unless o tt) (some_leg q s (surveyed b) (Some c.in-Some.leg) any (sym c.in-Some.ensures)))
