@@ -5,13 +5,16 @@ use Rattle.std.specs.declared.alloc.AllocError.{AllocError}
 use Rattle.records.specs.declared.refusal.Refusal.{Refusal}
 use Rattle.records.specs.declared.refusal.Fault.{Fault}
 use Rattle.records.specs.declared.refusal.Fault.TheVariants.{Refused, Memory}
+use Rattle.records.specs.Refusals.{seen}
+use Rattle.std.specs.Result.{MatchResult, IsOkAnd}
 use Rattle.quantities.specs.Terms.{Terms}
 use Rattle.standards.specs.Rules.{Rules}
 use Rattle.plainbook.specs.Steps as plain
 use Rattle.plainbook.specs.Steps.{Held, Outcome, outcomes, run, step, unless_refused}
 use Rattle.plainbook.specs.Surveys.{Survey}
 use Rattle.survey.specs.Books.{Answers}
-use Rattle.calls.specs.Carrying.{Seen, reply_seen, replied, fault_seen, outcome_seen, plain_call, Carried, CarriedOut}
+use Rattle.calls.specs.declared.call.Answer.{Answer}
+use Rattle.calls.specs.Carrying.{Seen, plain_answer, reply_seen, replied, fault_seen, outcome_seen, plain_call, Carried, CarriedOut}
 use Rattle.calls.specs.declared.call.Call.{Call}
 use Rattle.calls.specs.declared.call.Reply.{Reply}
 
@@ -27,6 +30,22 @@ words_kept h words (Some r) answer p = refl
 pub held_kept : {Q S : Type 0} (h : Held Q S) (words : List ℕ) (r : Option Refusal) (answer : plain.Answer) (after : List ℕ) → (unless_refused h words r answer h.survey after).held ≡ h
 held_kept h words None answer after = refl
 held_kept h words (Some r) answer after = refl
+
+-- ---- an answer put among those of all calls
+module _ {A : Type 0} (view : A → plain.Answer) (P : A → Answer → Type 0) (same : (x : A) (y : Answer) → P x y → plain_answer y ≡ view x) where
+  pub seen_mapped : (r : Result A Refusal) (m : Result Answer Refusal) → MatchResult r (λ x. IsOkAnd m (P x)) (λ e. m ≡ Err e) → seen plain_answer m ≡ seen view r
+  seen_mapped (Ok x) (Ok y) h = ap Ok (same x y h)
+  seen_mapped (Ok x) (Err e) h = absurd h
+  seen_mapped (Err e) m h = ap (seen plain_answer) h
+
+  pub fault_mapped : (words : List ℕ) (r : Result A Fault) (m : Result Answer Fault) → MatchResult r (λ x. IsOkAnd m (P x)) (λ e. m ≡ Err e) → fault_seen plain_answer words m ≡ fault_seen view words r
+  fault_mapped words (Ok x) (Ok y) h = ap (λ a. Ok (record { answer = Ok a; words = words })) (same x y h)
+  fault_mapped words (Ok x) (Err e) h = absurd h
+  fault_mapped words (Err e) m h = ap (fault_seen plain_answer words) h ∙ refused_alike e
+    where
+      refused_alike : (e : Fault) → ◌≡◌ {A = Result Seen AllocError} (fault_seen plain_answer words (Err e)) (fault_seen view words (Err e))
+      refused_alike (Refused r) = refl
+      refused_alike Memory = refl
 
 ok_is : {a b : Seen} → ◌≡◌ {A = Result Seen AllocError} (Ok a) (Ok b) → a ≡ b
 ok_is e = cc

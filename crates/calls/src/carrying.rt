@@ -1,15 +1,14 @@
 // Lists of calls carried out.
-ghost use Rattle.std.specs.Prelude.{◌≡◌, [], Err};
+ghost use Rattle.std.specs.Prelude.{◌≡◌, []};
 ghost use Rattle.records.specs.Refusals.{seen};
 ghost use Rattle.plainbook.specs.Promise.{Promise};
 ghost use Rattle.plainbook.specs.Steps.{step, listing};
 ghost use Rattle.survey.specs.Books.{plain_book, is_done};
 ghost use Rattle.grading.specs.Grades.{is_graded};
 ghost use Rattle.listing.specs.Answered.{is_listed};
-ghost use Rattle.calls.specs.Carrying.{plain_call, outcome_seen, reply_seen, replied, fault_seen, Carried, CarriedOut};
+ghost use Rattle.calls.specs.Carrying.{plain_call, plain_answer, outcome_seen, reply_seen, replied, fault_seen, Carried, CarriedOut};
 
 use crate::call::{Answer, Call, Reply};
-use grading::grade::Grade;
 use grading::judge::grade;
 use listing::list::misses;
 use quantities::quantity::Quantity;
@@ -22,60 +21,28 @@ use survey::book::Book;
 fn done(heap: Global, res: Result<(), Refusal>) -> Reply
     ensures { reply_seen result ≡ record { answer = seen is_done res; words = [] } }
 {
-    let answer = match res {
-        Ok(()) => Ok(Answer::Done),
-        Err(refusal) => Err(refusal),
-    };
     Reply {
-        answer,
+        answer: res.map(|()| Answer::Done),
         words: Vec::new(heap),
     }
 }
 
-// The reply of a call that was refused, if it was not for want of memory.
-fn refused(words: Vec<u32>, fault: Fault) -> Result<Reply, AllocError>
-    ensures { replied result ≡ fault_seen is_done words.items (Err fault) }
+// The reply of a call that allocates, if it was not refused for want of memory.
+fn reply(words: Vec<u32>, res: Result<Answer, Fault>) -> Result<Reply, AllocError>
+    ensures { replied result ≡ fault_seen plain_answer words.items res }
 {
-    match fault {
-        Fault::Refused(refusal) => Ok(Reply {
-            answer: Err(refusal),
-            words,
-        }),
-        Fault::Memory => Err(AllocError),
-    }
-}
-
-fn entered(words: Vec<u32>, res: Result<(), Fault>) -> Result<Reply, AllocError>
-    ensures { replied result ≡ fault_seen is_done words.items res }
-{
-    match res {
-        Ok(()) => Ok(Reply {
-            answer: Ok(Answer::Done),
-            words,
-        }),
-        Err(fault) => refused(words, fault),
-    }
-}
-
-fn graded(heap: Global, res: Result<Grade, Fault>) -> Result<Reply, AllocError>
-    ensures { replied result ≡ fault_seen is_graded [] res }
-{
-    match res {
-        Ok(grade) => Ok(Reply {
-            answer: Ok(Answer::Graded(grade)),
-            words: Vec::new(heap),
-        }),
-        Err(fault) => refused(Vec::new(heap), fault),
-    }
+    let answer = match res {
+        Ok(answer) => Ok(answer),
+        Err(Fault::Refused(refusal)) => Err(refusal),
+        Err(Fault::Memory) => return Err(AllocError),
+    };
+    Ok(Reply { answer, words })
 }
 
 fn listed<Q: Quantity, S: Standard>(book: &Book<Q, S>, class: u8, mut words: Vec<u32>) -> Reply
     ensures { reply_seen result ≡ outcome_seen (step Q.Quantity.meaning S.Standard.meaning (listing class words.items) (plain_book book.now)) }
 {
-    let answer = match misses(book, class, &mut words) {
-        Ok(count) => Ok(Answer::Listed(count)),
-        Err(refusal) => Err(refusal),
-    };
+    let answer = misses(book, class, &mut words).map(|count| Answer::Listed(count));
     Reply { answer, words }
 }
 
@@ -92,16 +59,19 @@ fn carry_one<Q: Quantity + Drop, S: Standard + Drop>(
             Ok(done(heap, Ok(())))
         }
         Call::Enter(words) => {
-            let result = book.enter(&words);
-            entered(words, result)
+            let res = book.enter(&words);
+            reply(words, res.map(|()| Answer::Done))
         }
         Call::Join(words) => {
-            let result = book.join(heap, &words);
-            entered(words, result)
+            let res = book.join(heap, &words);
+            reply(words, res.map(|()| Answer::Done))
         }
         Call::StrikeLeg(number) => Ok(done(heap, book.strike_leg(number))),
         Call::StrikeCircuit(number) => Ok(done(heap, book.strike_circuit(number))),
-        Call::Grade => graded(heap, grade(heap, book)),
+        Call::Grade => {
+            let res = grade(heap, book);
+            reply(Vec::new(heap), res.map(|grade| Answer::Graded(grade)))
+        }
         Call::Misses(class, words) => Ok(listed(book, class, words)),
     }
 }
