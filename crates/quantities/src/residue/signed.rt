@@ -1,0 +1,32 @@
+// A residue as a signed number, and its size.
+ghost use Rattle.std.specs.Prelude.{◌≡◌, ◌+◌, unsigned_abs};
+ghost use Rattle.quantities.specs.Residues.{residue_size, least_residue, signed_form, SignedRange};
+ghost use Rattle.quantities.specs.NeverWrap.{HeightsNeverWrap};
+
+use super::Residue;
+
+impl<const GREATEST: u64> Residue<GREATEST> {
+    // The number nearest to zero that has the residue.
+    #[tactic(auto, using(crate::proofs::NoWrap::heights_never_wrap))]
+    pub fn signed(self) -> i128
+        ensures value { result ≡ signed_form (GREATEST + 1) self.entry.residue }
+        ensures range { SignedRange (GREATEST + 1) result }
+        ensures same_residue { least_residue (GREATEST + 1) result ≡ self.entry.residue }
+        ensures size { residue_size (GREATEST + 1) self.entry.residue ≡ unsigned_abs result }
+        ensures true_sums { HeightsNeverWrap }
+    {
+        let above = i128::from(self.residue);
+        let modulus = Self::modulus();
+        if 2 * above <= modulus {
+            above
+        } else {
+            above - modulus
+        }
+    }
+
+    pub(crate) fn size(self) -> u64
+        ensures { result ≡ residue_size (GREATEST + 1) self.entry.residue }
+    {
+        self.signed().unsigned_abs() as u64
+    }
+}
