@@ -31,6 +31,12 @@ module _ (greatest : ℕ) where
 abbrev pub Modulo : ℕ → Type 0
 Modulo m = Residue (m - 1)
 
+pub same_height : (x y : Modulo height_modulus) → x.residue ≡ y.residue → x ≡ y
+same_height = same (height_modulus - 1)
+
+pub same_angle : (x y : Modulo full_circle) → x.residue ≡ y.residue → x ≡ y
+same_angle = same (full_circle - 1)
+
 abbrev pub height_residues : ResidueType height_modulus (Modulo height_modulus)
 height_residues = residues (height_modulus - 1)
 
