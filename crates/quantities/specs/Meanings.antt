@@ -1,6 +1,7 @@
 -- The terms of heights and of angles, on the elements that the code has.
-use Rattle.std.specs.Prelude.{◌≡◌, ℕ, ◌+◌, ◌-◌, ◌<◌, refl}
-use Rattle.std.proofs.Common.{lit<, lit≤, arith}
+use Rattle.std.specs.Prelude.{◌≡◌, ℕ, ◌+◌, ◌-◌, refl}
+use Rattle.std.proofs.Common.{lit<, lit≤}
+use Rattle.std.proofs.Math.Nat.{le-add_left}
 use Rattle.quantities.specs.declared.residue.Residue.{Residue}
 use Rattle.quantities.specs.Terms.{Terms}
 use Rattle.quantities.specs.Residues.{least_residue}
@@ -14,14 +15,11 @@ module _ (greatest : ℕ) where
   pub same : (x y : Residue greatest) → x.residue ≡ y.residue → x ≡ y
   same x y e = λ i. record { residue = e i; fits = below_along (greatest + 1) e x.fits y.fits i }
 
-  pub positive : 0 < greatest + 1
-  positive = omega arith
-
   abbrev pub residues : ResidueType (greatest + 1) (Residue greatest)
   residues =
       record {
         residue = λ x. x.residue;
-        element = λ z. record { residue = least_residue (greatest + 1) z; fits = least_below (greatest + 1) positive z };
+        element = λ z. record { residue = least_residue (greatest + 1) z; fits = least_below (greatest + 1) (le-add_left 1 greatest) z };
         below = λ x. x.fits;
         reduced = λ z. refl;
         same = same;
