@@ -3,8 +3,6 @@ use Rattle.std.proofs.Common.{◌≡◌, ℕ, zero, suc, ◌+◌, ◌-◌, ◌*�
 use native.Mathlib.Nat.{add-mod, add-mul-mod_self_right, zero-mod, sub-zero, mod_self}
 use borrow.Author.Differences.{up, down, sum_is_lem, ints}
 use Rattle.std.proofs.lemmas.Bool.{cases_lt, cond-true, cond-false, le-leb, lt-leb}
-use Rattle.std.specs.Int.{int_rem_euclid}
-use Rattle.std.proofs.lemmas.Int.{int_rem_euclid_is}
 use Rattle.quantities.specs.Residues.{residue_plus, residue_opposite, least_residue, signed_form}
 use Rattle.quantities.specs.ResidueLaws.{opposite_cases}
 
@@ -22,13 +20,6 @@ module _ (m : ℕ) (positive : 0 < m) where
   least_difference (pos n) =
       same_residue m n 1 (n + (m - 0 % m)) 0 (omega (arith, zero-mod m))
   least_difference (negsuc n) = ap (λ k. k % m) (sym (zero-add (m - suc n % m)))
-
-  pub euclid_least : (z : ℤ) → int_rem_euclid z (pos m) ≡ pos (least_residue m z)
-  euclid_least (pos n) = refl
-  euclid_least (negsuc n) =
-      let turns : negsuc n +ℤ pos ((suc n / m + 1) * m) ≡ pos (m - suc n % m) =
-      omega (arith, ints, add-mul (suc n / m) 1 m, div-add-mod' (suc n) m, mod-lt (suc n) positive) in
-      int_rem_euclid_is (negsuc n) (pos m) m (suc n / m + 1) (m - suc n % m) positive refl turns
 
   pub least_sum : (a b : ℤ) → least_residue m (a +ℤ b) ≡ residue_plus m (least_residue m a) (least_residue m b)
   unfolding difference

@@ -1,5 +1,5 @@
 // Sums modulo a whole number, for heights and angles alike.
-ghost use Rattle.std.specs.Prelude.{◌≡◌, ◌+◌, ◌<◌, pos};
+ghost use Rattle.std.specs.Prelude.{◌≡◌, ◌+◌, ◌%◌, ◌<◌};
 ghost use Rattle.quantities.specs.Residues.{residue_plus, residue_opposite, least_residue};
 
 mod signed;
@@ -12,19 +12,26 @@ pub struct Residue<const GREATEST: u64> {
 }
 
 impl<const GREATEST: u64> Residue<GREATEST> {
-    fn modulus() -> i128
-        ensures { result ≡ pos (GREATEST + 1) }
+    // The element of a number that is not below zero.
+    fn of_size(size: u64) -> Self
+        ensures { result.residue ≡ size % (GREATEST + 1) }
     {
-        i128::from(GREATEST) + 1
+        if size <= GREATEST {
+            return Residue { residue: size };
+        }
+        Residue {
+            residue: size % (GREATEST + 1),
+        }
     }
 
-    #[tactic(auto, using(crate::proofs::Wholes::euclid_least))]
-    pub(crate) fn of_whole(number: i128) -> Self
+    pub(crate) fn of_whole(number: i64) -> Self
         ensures { result.residue ≡ least_residue (GREATEST + 1) number }
     {
-        Residue {
-            residue: number.rem_euclid(Self::modulus()) as u64,
+        let element = Self::of_size(number.unsigned_abs());
+        if number < 0 {
+            return element.opposite();
         }
+        element
     }
 
     pub(crate) fn zero() -> Self
@@ -36,12 +43,25 @@ impl<const GREATEST: u64> Residue<GREATEST> {
     pub(crate) fn sum(self, other: Self) -> Self
         ensures { result.residue ≡ residue_plus (GREATEST + 1) self.entry.residue other.entry.residue }
     {
-        Self::of_whole(i128::from(self.residue) + i128::from(other.residue))
+        let room = GREATEST - self.residue;
+        if other.residue <= room {
+            return Residue {
+                residue: self.residue + other.residue,
+            };
+        }
+        Residue {
+            residue: other.residue - room - 1,
+        }
     }
 
     pub(crate) fn opposite(self) -> Self
         ensures { result.residue ≡ residue_opposite (GREATEST + 1) self.entry.residue }
     {
-        Self::of_whole(Self::modulus() - i128::from(self.residue))
+        if self.residue == 0 {
+            return self;
+        }
+        Residue {
+            residue: GREATEST - self.residue + 1,
+        }
     }
 }

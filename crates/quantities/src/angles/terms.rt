@@ -28,7 +28,7 @@ impl Quantity for Angles {
     }
 
     fn contribution(&self, value: Payload, _back: Option<Payload>) -> Angle {
-        Angle::of_whole(i128::from(value.bits))
+        Angle::of_whole(i64::from(value.bits))
     }
 
     fn misclosure(&self, _value: Payload, _back: Option<Payload>) -> Angle {
@@ -36,7 +36,7 @@ impl Quantity for Angles {
     }
 
     fn due(&self, due: Payload) -> Angle {
-        Angle::of_whole(i128::from(due.bits))
+        Angle::of_whole(i64::from(due.bits))
     }
 
     fn zero(&self) -> Angle {

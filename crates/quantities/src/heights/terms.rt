@@ -36,22 +36,22 @@ impl Quantity for Heights {
     }
 
     fn contribution(&self, value: Payload, back: Option<Payload>) -> Height {
-        let forth = i128::from(value.signed());
+        let forth = i64::from(value.signed());
         match back {
             None => Height::of_whole(2 * forth),
-            Some(back) => Height::of_whole(forth - i128::from(back.signed())),
+            Some(back) => Height::of_whole(forth - i64::from(back.signed())),
         }
     }
 
     fn misclosure(&self, value: Payload, back: Option<Payload>) -> Height {
         match back {
             None => self.zero(),
-            Some(back) => Height::of_whole(i128::from(value.signed()) + i128::from(back.signed())),
+            Some(back) => Height::of_whole(i64::from(value.signed()) + i64::from(back.signed())),
         }
     }
 
     fn due(&self, due: Payload) -> Height {
-        Height::of_whole(i128::from(due.bits))
+        Height::of_whole(i64::from(due.bits))
     }
 
     fn zero(&self) -> Height {

@@ -16,7 +16,7 @@ impl<const GREATEST: u64> Residue<GREATEST> {
         ensures true_sums { HeightsNeverWrap }
     {
         let above = i128::from(self.residue);
-        let modulus = Self::modulus();
+        let modulus = i128::from(GREATEST) + 1;
         if 2 * above <= modulus {
             above
         } else {
