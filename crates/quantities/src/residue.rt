@@ -1,6 +1,6 @@
 // Sums modulo a whole number, for heights and angles alike.
 ghost use Rattle.std.specs.Prelude.{◌≡◌, ◌+◌, ◌%◌, ◌<◌};
-ghost use Rattle.quantities.specs.Residues.{residue_plus, residue_opposite, least_residue};
+ghost use Rattle.quantities.specs.Residues.{residue_plus, residue_opposite, residue_size, least_residue};
 
 mod signed;
 
@@ -63,5 +63,11 @@ impl<const GREATEST: u64> Residue<GREATEST> {
         Residue {
             residue: GREATEST - self.residue + 1,
         }
+    }
+
+    pub(crate) fn size(self) -> u64
+        ensures { result ≡ residue_size (GREATEST + 1) self.entry.residue }
+    {
+        self.residue.min(self.opposite().residue)
     }
 }

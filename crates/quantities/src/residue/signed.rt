@@ -1,4 +1,4 @@
-// A residue as a signed number, and its size.
+// A residue as a signed number.
 ghost use Rattle.std.specs.Prelude.{◌≡◌, ◌+◌, unsigned_abs};
 ghost use Rattle.quantities.specs.Residues.{residue_size, least_residue, signed_form, SignedRange};
 ghost use Rattle.quantities.specs.NeverWrap.{HeightsNeverWrap};
@@ -22,11 +22,5 @@ impl<const GREATEST: u64> Residue<GREATEST> {
         } else {
             above - modulus
         }
-    }
-
-    pub(crate) fn size(self) -> u64
-        ensures { result ≡ residue_size (GREATEST + 1) self.entry.residue }
-    {
-        self.signed().unsigned_abs() as u64
     }
 }
