@@ -64,8 +64,8 @@ pub(crate) fn show_leg(survey: Survey, words: &[u32]) -> Result<LegShown, Refusa
             Heights.misclosure(value, back).signed(),
         ),
         Survey::Triangulation => (
-            i128::from(Angles.contribution(value, back).signed()),
-            i128::from(Angles.misclosure(value, back).signed()),
+            Angles.contribution(value, back).signed(),
+            Angles.misclosure(value, back).signed(),
         ),
     };
     Ok(LegShown {

@@ -9,10 +9,9 @@ use Rattle.records.specs.Ranges.{is_leg_count}
 use Rattle.records.specs.Words.{signed}
 use Rattle.records.specs.declared.circuit.Sense.{Sense}
 use Rattle.records.specs.declared.circuit.Sense.TheVariants.{Along, Against}
-use Rattle.quantities.specs.declared.heights.Height.{Height}
 use Rattle.quantities.specs.Residues.{signed_form}
 use Rattle.quantities.specs.Heights.{height_modulus, greatest_height, heights, accepts_height, accepts_back_height, double_rise, disagreement}
-use Rattle.quantities.specs.Meanings.{heights_terms, height_residues}
+use Rattle.quantities.specs.Meanings.{Modulo, heights_terms, height_residues}
 use Rattle.quantities.specs.Sums.{LegRun, as_run, whole_sum, total, all_accepted, run_contribution, run_misclosure}
 use Rattle.quantities.specs.NeverWrap.{true_rise, true_misclosure, HeightsNeverWrap}
 use Rattle.quantities.proofs.Totals.{summed_near, element_opposite}
@@ -48,11 +47,11 @@ all_within g within (leg ∷ legs) h =
     let own = and_parts (accepts_height leg.value) (accepts_back_height leg.back) parts.0 in
     (within leg own.0 own.1, all_within g within legs parts.1)
 
-map_through : (f : LegRun → Height) (g : LegRun → ℤ) → ((leg : LegRun) → f leg ≡ height_residues.element (g leg)) → (legs : List LegRun) → map f legs ≡ map height_residues.element (map g legs)
+map_through : (f : LegRun → Modulo height_modulus) (g : LegRun → ℤ) → ((leg : LegRun) → f leg ≡ height_residues.element (g leg)) → (legs : List LegRun) → map f legs ≡ map height_residues.element (map g legs)
 map_through f g agrees [] = refl
 map_through f g agrees (leg ∷ legs) = λ i. agrees leg i ∷ map_through f g agrees legs i
 
-true_total : (f : LegRun → Height) (g : LegRun → ℤ) → ((leg : LegRun) → f leg ≡ height_residues.element (g leg)) → Within g → (legs : List LegRun) → is_leg_count (length legs) ≡ true → all_accepted heights_terms legs ≡ true → signed_form height_modulus (total heights_terms (map f legs)).residue ≡ whole_sum (map g legs)
+true_total : (f : LegRun → Modulo height_modulus) (g : LegRun → ℤ) → ((leg : LegRun) → f leg ≡ height_residues.element (g leg)) → Within g → (legs : List LegRun) → is_leg_count (length legs) ≡ true → all_accepted heights_terms legs ≡ true → signed_form height_modulus (total heights_terms (map f legs)).residue ≡ whole_sum (map g legs)
 true_total f g agrees within legs count accepted =
     let few = leb-true (length legs) 16 (and_parts (leb 1 (length legs)) (leb (length legs) 16) count).1 in
     let short : 2 * (length (map g legs) * (2 * greatest_height)) < height_modulus = omega (arith, few, length-map legs g) in
@@ -64,7 +63,7 @@ run_agrees Along z = refl
 run_agrees Against z = element_opposite height_modulus (lit< tt) height_residues (lit≤ tt) heights z
 
 pub heights_never_wrap : HeightsNeverWrap
-unfolding Within
+unfolding HeightsNeverWrap Within
 heights_never_wrap legs count accepted = (
   true_total (run_contribution heights_terms) true_rise
       (λ leg. run_agrees leg.sense (double_rise leg.value leg.back))

@@ -1,9 +1,9 @@
 -- Whole numbers and their least residues: sums, opposites, and the way back.
-use Rattle.std.proofs.Common.{◌≡◌, ℕ, zero, suc, ◌+◌, ◌-◌, ◌*◌, ◌/◌, ◌%◌, ◌^◌, ◌<◌, ◌≤◌, leb, ◌⊎◌, ℤ, pos, negsuc, ◌+ℤ◌, ◌-ℤ◌, neg_ℤ, nat_abs, sym, refl, ap, ◌∙◌, subst, inl, inr, mod-lt, mod-eq_of_lt, add-mul, div-add-mod', zero-add, arith, lit<, w64, SFits, of_z}
+use Rattle.std.proofs.Common.{◌≡◌, ℕ, zero, suc, ◌+◌, ◌-◌, ◌*◌, ◌/◌, ◌%◌, ◌<◌, ◌≤◌, leb, ◌⊎◌, ℤ, pos, negsuc, ◌+ℤ◌, ◌-ℤ◌, neg_ℤ, nat_abs, sym, refl, ap, ◌∙◌, inl, inr, mod-lt, mod-eq_of_lt, add-mul, div-add-mod', zero-add, arith}
 use native.Mathlib.Nat.{add-mod, add-mul-mod_self_right, zero-mod, sub-zero, mod_self}
 use borrow.Author.Differences.{up, down, sum_is_lem, ints}
 use Rattle.std.proofs.lemmas.Bool.{cases_lt, cond-true, cond-false, le-leb, lt-leb}
-use Rattle.quantities.specs.Residues.{residue_plus, residue_opposite, residue_size, least_residue, signed_form, SignedRange}
+use Rattle.quantities.specs.Residues.{residue_plus, residue_opposite, least_residue, signed_form}
 use Rattle.quantities.specs.ResidueLaws.{opposite_cases}
 
 -- numbers that differ by multiples of m have one residue
@@ -78,23 +78,6 @@ module _ (m : ℕ) (positive : 0 < m) where
         | inr upto ↦ inl (upto, cond-true (leb (2 * a) m) (pos a) (pos a -ℤ pos m) (le-leb (2 * a) m upto))
       ]
 
-  pub signed_size : (a : ℕ) → a < m → residue_size m a ≡ nat_abs (signed_form m a)
-  signed_size a below =
-      elim (signed_cases a below) [
-        | inl h ↦ rw h.1 (omega (arith, h.0))
-        | inr h ↦ rw h.1 (omega (arith, h.0))
-      ]
-
-  pub signed_least : (a : ℕ) → a < m → least_residue m (signed_form m a) ≡ a
-  signed_least a below =
-      elim (signed_cases a below) [
-        | inl h ↦ ap (least_residue m) h.1 ∙ mod-eq_of_lt below
-        | inr h ↦
-            ap (least_residue m) h.1
-            ∙ opposite_of (suc (m - suc a)) (omega arith) (omega (arith, h.0))
-            ∙ omega arith
-      ]
-
   -- a whole number below half of m is the signed form of its residue
   pub signed_near : (z : ℤ) → 2 * nat_abs z < m → signed_form m (least_residue m z) ≡ z
   signed_near (pos n) near =
@@ -109,28 +92,3 @@ module _ (m : ℕ) (positive : 0 < m) where
         | inl h ↦ absurd (omega (arith, h.0))
         | inr h ↦ h.1 ∙ ap negsuc (omega arith)
       ]
-
-  pub signed_range : (a : ℕ) → a < m → SignedRange m (signed_form m a)
-  signed_range a below =
-      elim (signed_cases a below) [
-        | inl h ↦ rw h.1 (omega (arith, ints, h.0), omega (arith, ints, h.0))
-        | inr h ↦ rw h.1 (omega (arith, ints, h.0), omega (arith, ints, h.0))
-      ]
-
--- a signed number r that is the signed form of the residue a
-pub record Nearest (m a : ℕ) (r : ℤ) : Type 0 where
-  pub range : SignedRange m r
-  pub same_residue : least_residue m r ≡ a
-  pub size : residue_size m a ≡ nat_abs r
-
-pub nearest : (m : ℕ) → 0 < m → (a : ℕ) → a < m → (r : ℤ) → r ≡ signed_form m a → Nearest m a r
-nearest m positive a below r is =
-    record {
-      range = subst (SignedRange m) (sym is) (signed_range m positive a below);
-      same_residue = ap (least_residue m) is ∙ signed_least m positive a below;
-      size = signed_size m positive a below ∙ ap nat_abs (sym is);
-    }
-
-pub bits_least : (z : ℤ) → SFits w64 z → of_z w64 z ≡ least_residue (2 ^ 64) z
-bits_least (pos n) fits = sym (mod-eq_of_lt (omega (arith, fits.sfits)))
-bits_least (negsuc n) fits = sym (opposite_of (2 ^ 64) (lit< tt) (suc n) (omega arith) (omega (arith, fits.sfits)))

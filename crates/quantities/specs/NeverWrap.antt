@@ -15,7 +15,7 @@ true_misclosure leg = disagreement leg.value leg.back
 
 -- For the legs of any circuit, each accepted, the signed form of the summed contributions is the sum of their rises,
 -- and the signed form of the summed misclosures the sum of their disagreements.
-abbrev pub HeightsNeverWrap : Type 0
+unfoldable pub HeightsNeverWrap : Type 0
 HeightsNeverWrap =
     (legs : List LegRun)
     → is_leg_count (length legs) ≡ true

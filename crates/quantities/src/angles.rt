@@ -1,19 +1,13 @@
 // Angles: in 0.01 seconds of arc, on a circle of 129,600,000.
-ghost use Rattle.std.specs.Prelude.{◌<◌};
-ghost use Rattle.quantities.specs.Angles.{full_circle};
+use crate::residue::Residue;
 
-mod signed;
 mod terms;
 
-// The whole circle.
-const CIRCLE: u32 = 129_600_000;
+// The greatest angle below a whole circle.
+const GREATEST: u64 = 129_599_999;
 
 #[derive(Clone, Copy)]
 pub struct Angles;
 
-// A sum of angles, as its least residue.
-#[derive(Clone, Copy)]
-pub struct Angle {
-    residue: u32,
-    ghost fits: { residue < full_circle },
-}
+// A sum of angles.
+pub type Angle = Residue<GREATEST>;

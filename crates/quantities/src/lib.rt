@@ -5,5 +5,6 @@ pub mod acceptance;
 pub mod angles;
 pub mod heights;
 pub mod quantity;
+pub mod residue;
 #[cfg(test)]
 mod tests;

@@ -24,10 +24,7 @@ fn leg(value: u32, back: Option<u32>) -> Leg {
         value: Payload::of_word(value),
         length: Length { metres: 1 },
         readings: Readings { a: 1, b: 1, c: 1 },
-        back: match back {
-            None => None,
-            Some(back) => Some(Payload::of_word(back)),
-        },
+        back: back.map(Payload::of_word),
     }
 }
 

@@ -1,8 +1,7 @@
 // Angles as a quantity.
-ghost use Rattle.std.specs.Prelude.{◌≡◌, pos};
-ghost use Rattle.quantities.specs.Meanings.{angles_terms, angle_residues};
+ghost use Rattle.quantities.specs.Meanings.{angles_terms};
 
-use super::{Angle, Angles, CIRCLE};
+use super::{Angle, Angles, GREATEST};
 use crate::quantity::Quantity;
 use records::word::Payload;
 
@@ -11,37 +10,25 @@ const LEAST_DUE: u32 = 64_794_000;
 
 const GREATEST_DUE: u32 = 64_806_000;
 
-// The element of a whole number.
-fn element(angle: u32) -> Angle
-    ensures { result ≡ angle_residues.element (pos angle) }
-{
-    Angle {
-        residue: angle % CIRCLE,
-    }
-}
-
 impl Quantity for Angles {
     type Element = Angle;
 
     ghost meaning = { λ _. angles_terms };
 
     fn accepts_value(&self, value: Payload) -> bool {
-        value.bits < CIRCLE
+        u64::from(value.bits) <= GREATEST
     }
 
     fn accepts_back(&self, back: Option<Payload>) -> bool {
-        match back {
-            None => true,
-            Some(_) => false,
-        }
+        back.is_none()
     }
 
     fn accepts_due(&self, due: Payload) -> bool {
-        LEAST_DUE <= due.bits && due.bits <= GREATEST_DUE
+        (LEAST_DUE..=GREATEST_DUE).contains(&due.bits)
     }
 
     fn contribution(&self, value: Payload, _back: Option<Payload>) -> Angle {
-        element(value.bits)
+        Angle::of_whole(i64::from(value.bits))
     }
 
     fn misclosure(&self, _value: Payload, _back: Option<Payload>) -> Angle {
@@ -49,22 +36,22 @@ impl Quantity for Angles {
     }
 
     fn due(&self, due: Payload) -> Angle {
-        element(due.bits)
+        Angle::of_whole(i64::from(due.bits))
     }
 
     fn zero(&self) -> Angle {
-        element(0)
+        Angle::zero()
     }
 
     fn sum(&self, a: Angle, b: Angle) -> Angle {
-        element(a.residue + b.residue)
+        a.sum(b)
     }
 
     fn opposite(&self, a: Angle) -> Angle {
-        element(CIRCLE - a.residue)
+        a.opposite()
     }
 
     fn size(&self, a: Angle) -> u64 {
-        u64::from(a.residue.min(CIRCLE - a.residue))
+        a.size()
     }
 }

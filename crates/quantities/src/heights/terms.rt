@@ -1,7 +1,7 @@
 // Heights as a quantity.
 ghost use Rattle.std.specs.Prelude.{◌≡◌};
 ghost use Rattle.quantities.specs.Heights.{accepts_height};
-ghost use Rattle.quantities.specs.Meanings.{heights_terms, height_residues};
+ghost use Rattle.quantities.specs.Meanings.{heights_terms};
 
 use super::{Height, Heights};
 use crate::quantity::Quantity;
@@ -15,17 +15,7 @@ const DUE: u32 = 0;
 fn accepts(payload: Payload) -> bool
     ensures { result ≡ accepts_height payload.bits }
 {
-    let height = payload.signed();
-    -GREATEST <= height && height <= GREATEST
-}
-
-// The element of a whole number.
-fn element(difference: i64) -> Height
-    ensures { result ≡ height_residues.element difference }
-{
-    Height {
-        residue: difference.cast_unsigned(),
-    }
+    (-GREATEST..=GREATEST).contains(&payload.signed())
 }
 
 impl Quantity for Heights {
@@ -38,10 +28,7 @@ impl Quantity for Heights {
     }
 
     fn accepts_back(&self, back: Option<Payload>) -> bool {
-        match back {
-            None => true,
-            Some(back) => accepts(back),
-        }
+        back.is_none_or(accepts)
     }
 
     fn accepts_due(&self, due: Payload) -> bool {
@@ -51,39 +38,35 @@ impl Quantity for Heights {
     fn contribution(&self, value: Payload, back: Option<Payload>) -> Height {
         let forth = i64::from(value.signed());
         match back {
-            None => element(2 * forth),
-            Some(back) => element(forth - i64::from(back.signed())),
+            None => Height::of_whole(2 * forth),
+            Some(back) => Height::of_whole(forth - i64::from(back.signed())),
         }
     }
 
     fn misclosure(&self, value: Payload, back: Option<Payload>) -> Height {
         match back {
             None => self.zero(),
-            Some(back) => element(i64::from(value.signed()) + i64::from(back.signed())),
+            Some(back) => Height::of_whole(i64::from(value.signed()) + i64::from(back.signed())),
         }
     }
 
     fn due(&self, due: Payload) -> Height {
-        element(i64::from(due.bits))
+        Height::of_whole(i64::from(due.bits))
     }
 
     fn zero(&self) -> Height {
-        element(0)
+        Height::zero()
     }
 
     fn sum(&self, a: Height, b: Height) -> Height {
-        Height {
-            residue: a.residue.wrapping_add(b.residue),
-        }
+        a.sum(b)
     }
 
     fn opposite(&self, a: Height) -> Height {
-        Height {
-            residue: 0u64.wrapping_sub(a.residue),
-        }
+        a.opposite()
     }
 
     fn size(&self, a: Height) -> u64 {
-        a.residue.min(0u64.wrapping_sub(a.residue))
+        a.size()
     }
 }
