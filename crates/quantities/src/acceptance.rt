@@ -22,10 +22,7 @@ fn accepted_at(accepted: bool, place: u32) -> Result<(), Refusal>
     if accepted {
         Ok(())
     } else {
-        Err(Refusal {
-            reason: Reason::Measure,
-            place,
-        })
+        Err(Reason::Measure.at(place))
     }
 }
 
