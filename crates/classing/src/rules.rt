@@ -174,21 +174,22 @@ impl Miss {
     ) -> Option<Miss> {
         let readings = finding.readings;
         let (b, c) = (u64::from(readings.b), u64::from(readings.c));
-        match (survey, rule) {
-            (Survey::Level, 0) => Some(METHOD.at_least(class, readings.a)),
-            (Survey::Level, 1) => Some(LONGEST_SIGHT.at_most(class, b)),
-            (Survey::Level, 2) => Some(SIGHT_DIFFERENCE.at_most(class, c)),
-            (Survey::Level, 3) => Some(OWN_MISCLOSURE.at_most_over(
+        let miss = match (survey, rule) {
+            (Survey::Level, 0) => METHOD.at_least(class, readings.a),
+            (Survey::Level, 1) => LONGEST_SIGHT.at_most(class, b),
+            (Survey::Level, 2) => SIGHT_DIFFERENCE.at_most(class, c),
+            (Survey::Level, 3) => OWN_MISCLOSURE.at_most_over(
                 class,
                 finding.misclosure,
                 level::MISCLOSURE_FACTOR,
                 finding.length.metres,
-            )),
-            (Survey::Triangulation, 0) => Some(POSITIONS.at_least(class, readings.a)),
-            (Survey::Triangulation, 1) => Some(DEVIATION.at_most(class, b)),
-            (Survey::Triangulation, 2) => Some(LEAST_COUNT.at_most(class, c)),
-            _ => None,
-        }
+            ),
+            (Survey::Triangulation, 0) => POSITIONS.at_least(class, readings.a),
+            (Survey::Triangulation, 1) => DEVIATION.at_most(class, b),
+            (Survey::Triangulation, 2) => LEAST_COUNT.at_most(class, c),
+            _ => return None,
+        };
+        Some(miss)
     }
 
     pub(crate) fn of_circuit(
@@ -198,23 +199,24 @@ impl Miss {
         finding: &CircuitFinding,
     ) -> Option<Miss> {
         let metres = finding.length.metres;
-        match (survey, rule) {
-            (Survey::Level, 0) => Some(CIRCUIT_CLOSURE.at_most_over(
+        let miss = match (survey, rule) {
+            (Survey::Level, 0) => CIRCUIT_CLOSURE.at_most_over(
                 class,
                 finding.closure,
                 level::CLOSURE_FACTOR,
                 metres,
-            )),
-            (Survey::Level, 1) => Some(SUMMED_MISCLOSURE.at_most_over(
+            ),
+            (Survey::Level, 1) => SUMMED_MISCLOSURE.at_most_over(
                 class,
                 finding.misclosure,
                 level::MISCLOSURE_FACTOR,
                 metres,
-            )),
-            (Survey::Level, 2) => Some(RUNNING.less(class, metres)),
-            (Survey::Triangulation, 0) => Some(TRIANGLE_CLOSURE.at_most(class, finding.closure)),
-            _ => None,
-        }
+            ),
+            (Survey::Level, 2) => RUNNING.less(class, metres),
+            (Survey::Triangulation, 0) => TRIANGLE_CLOSURE.at_most(class, finding.closure),
+            _ => return None,
+        };
+        Some(miss)
     }
 
     pub(crate) fn of_whole(
