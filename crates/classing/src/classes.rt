@@ -22,8 +22,10 @@ impl fmt::Display for Graded {
     fn fmt<W: fmt::Write>(&self, f: &mut fmt::Formatter<W>) -> fmt::Result {
         let Grade { met, count, best } = self.grade;
         write!(f, "classes ")?;
-        for class in CLASSES.into_iter().filter(|class| met.contains(*class)) {
-            write!(f, "{}", class.number())?;
+        for class in CLASSES {
+            if met.contains(class) {
+                write!(f, "{}", class.number())?;
+            }
         }
         match best {
             Some(best) => write!(

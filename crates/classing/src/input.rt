@@ -85,5 +85,6 @@ fn answer_line(rt: &HostRuntime, manner: Manner, desk: &mut Desk, bytes: &[u8]) 
         Line::Text(text) => (text, answer_to(rt.alloc(), desk, text)),
     };
     let answer = &answer;
-    println!(rt; "{text} -> {}", Told { manner, answer })
+    let told = Told { manner, answer };
+    println!(rt; "{text} -> {told}")
 }

@@ -1,7 +1,7 @@
 // The classes that a leg meets by itself, and the rules that keep it from a better one.
 use crate::classes::{CLASSES, Graded};
 use crate::kinds::Kind;
-use crate::rules::Miss;
+use crate::rules::{Miss, RuleAt};
 use crate::show::accepted_leg;
 use grading::grade::Grade;
 use records::refusal::Fault;
@@ -32,22 +32,26 @@ pub(crate) fn judge<K: Kind>(heap: Global, words: &[u32]) -> Result<Judgment, Fa
     accept_leg(&standard, &leg)?;
     let finding = LegFinding::of(&K::QUANTITY, &leg);
     let met = gather(&standard, &[finding]);
-    let mut misses = Vec::new(heap);
-    for class in CLASSES
+    let survey = K::SURVEY;
+    let better = CLASSES
         .into_iter()
-        .take_while(|class| !met.contains(*class))
-    {
-        let is_missed = |rule: &u8| !standard.leg_classes(*rule, &finding).contains(class);
-        for rule in (0..standard.leg_rules()).filter(is_missed) {
-            if let Some(miss) = Miss::of_leg(K::SURVEY, rule, class, &finding) {
+        .take_while(|class| !met.contains(*class));
+    let mut misses = Vec::new(heap);
+    for class in better {
+        let meets = |rule| standard.leg_classes(rule, &finding).contains(class);
+        for rule in (0..standard.leg_rules()).filter(|rule| !meets(*rule)) {
+            let asked = RuleAt {
+                survey,
+                rule,
+                class,
+            };
+            if let Some(miss) = asked.leg_miss(&finding) {
                 misses.push(ClassMiss { class, miss })?;
             }
         }
     }
-    let graded = Graded {
-        survey: K::SURVEY,
-        grade: Grade::of(met),
-    };
+    let grade = Grade::of(met);
+    let graded = Graded { survey, grade };
     Ok(Judgment { graded, misses })
 }
 

@@ -1,4 +1,4 @@
-// The kinds of survey: each has a quantity and a standard, and measures of its own.
+// The kinds of survey as types, so that what works on a record or a book is written once for both.
 use crate::surveys::Survey;
 use crate::units::Measure;
 use quantities::angles::{Angle, Angles};
@@ -9,6 +9,7 @@ use standards::level::LevelStandard;
 use standards::standard::Standard;
 use standards::triangulation::TriangulationStandard;
 
+// What a survey of the kind is judged by, and how its measures are told.
 pub(crate) trait Kind {
     type Quantity: Quantity + Drop;
 
@@ -20,6 +21,7 @@ pub(crate) trait Kind {
 
     const STANDARD: Self::Standard;
 
+    // What a contribution or a misclosure comes to.
     fn measure(element: <Self::Quantity as Quantity>::Element) -> Measure;
 
     // What a payload says as a value or a due sum.

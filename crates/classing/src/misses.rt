@@ -1,6 +1,6 @@
 // The misses that a book lists: their words, and what they say.
 use crate::kinds::Kind;
-use crate::rules::Miss;
+use crate::rules::{Miss, RuleAt};
 use grading::findings::{circuit_finding, leg_finding, whole_finding};
 use standards::class::Class;
 use std::alloc::{AllocError, Global};
@@ -57,12 +57,16 @@ impl Named {
 
     fn miss<K: Kind>(self, book: &Book<K::Quantity, K::Standard>) -> Option<Miss> {
         let Named { class, item, rule } = self;
+        let survey = K::SURVEY;
+        let asked = RuleAt {
+            survey,
+            rule,
+            class,
+        };
         match item {
-            Item::Leg(number) => Miss::of_leg(K::SURVEY, rule, class, &leg_finding(book, number)?),
-            Item::Circuit(number) => {
-                Miss::of_circuit(K::SURVEY, rule, class, &circuit_finding(book, number)?)
-            }
-            Item::Whole => Miss::of_whole(K::SURVEY, rule, class, &whole_finding(book)),
+            Item::Leg(number) => asked.leg_miss(&leg_finding(book, number)?),
+            Item::Circuit(number) => asked.circuit_miss(&circuit_finding(book, number)?),
+            Item::Whole => asked.whole_miss(&whole_finding(book)),
         }
     }
 }

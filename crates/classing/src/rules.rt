@@ -100,6 +100,14 @@ enum Asked {
     OutAndBack,
 }
 
+// A rule of a survey's standard at a class. Rules are numbered from 0; past the last there is none to miss.
+#[derive(Clone, Copy)]
+pub(crate) struct RuleAt {
+    pub(crate) survey: Survey,
+    pub(crate) rule: u8,
+    pub(crate) class: Class,
+}
+
 // A rule that is missed: what was found, and what the class asks.
 #[derive(Clone, Copy)]
 pub(crate) struct Miss {
@@ -164,17 +172,12 @@ impl Rule {
     }
 }
 
-// Rules are named by their number in the survey's standard, from 0; past the last there is none to miss.
-impl Miss {
-    pub(crate) fn of_leg(
-        survey: Survey,
-        rule: u8,
-        class: Class,
-        finding: &LegFinding,
-    ) -> Option<Miss> {
+impl RuleAt {
+    pub(crate) fn leg_miss(self, finding: &LegFinding) -> Option<Miss> {
+        let class = self.class;
         let readings = finding.readings;
         let (b, c) = (u64::from(readings.b), u64::from(readings.c));
-        let miss = match (survey, rule) {
+        let miss = match (self.survey, self.rule) {
             (Survey::Level, 0) => METHOD.at_least(class, readings.a),
             (Survey::Level, 1) => LONGEST_SIGHT.at_most(class, b),
             (Survey::Level, 2) => SIGHT_DIFFERENCE.at_most(class, c),
@@ -192,14 +195,10 @@ impl Miss {
         Some(miss)
     }
 
-    pub(crate) fn of_circuit(
-        survey: Survey,
-        rule: u8,
-        class: Class,
-        finding: &CircuitFinding,
-    ) -> Option<Miss> {
+    pub(crate) fn circuit_miss(self, finding: &CircuitFinding) -> Option<Miss> {
+        let class = self.class;
         let metres = finding.length.metres;
-        let miss = match (survey, rule) {
+        let miss = match (self.survey, self.rule) {
             (Survey::Level, 0) => CIRCUIT_CLOSURE.at_most_over(
                 class,
                 finding.closure,
@@ -219,18 +218,12 @@ impl Miss {
         Some(miss)
     }
 
-    pub(crate) fn of_whole(
-        survey: Survey,
-        rule: u8,
-        class: Class,
-        finding: &WholeFinding,
-    ) -> Option<Miss> {
-        match (survey, rule) {
-            (Survey::Triangulation, 0) => Some(SUM_OF_CLOSURES.at_most_each(
-                class,
-                finding.closures,
-                finding.circuits,
-            )),
+    pub(crate) fn whole_miss(self, finding: &WholeFinding) -> Option<Miss> {
+        let WholeFinding { circuits, closures } = *finding;
+        match (self.survey, self.rule) {
+            (Survey::Triangulation, 0) => {
+                Some(SUM_OF_CLOSURES.at_most_each(self.class, closures, circuits))
+            }
             _ => None,
         }
     }

@@ -40,7 +40,7 @@ impl From<Fault> for Unanswered {
     }
 }
 
-fn part(part: Part) -> &'static str {
+fn part_name(part: Part) -> &'static str {
     match part {
         Part::Words => "words",
         Part::Quantity => "quantity",
@@ -77,7 +77,7 @@ impl fmt::Display for Unanswered {
                 f,
                 "refused {} {} {place}: {}",
                 reason.number(),
-                part(reason.part()),
+                part_name(reason.part()),
                 wording(*reason)
             ),
             Unanswered::NoMemory => write!(f, "no memory"),

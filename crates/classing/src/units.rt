@@ -1,7 +1,7 @@
 // Measures and figures in their units.
 use std::fmt;
 
-// A number with so many decimals, and what they say.
+// A whole number, and the rest behind its point in so many places.
 #[derive(Clone, Copy)]
 struct Decimal {
     whole: u128,
