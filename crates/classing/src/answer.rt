@@ -1,18 +1,19 @@
-// What a call is answered.
-use crate::call::{Call, Unread};
+// What a line is answered.
+use crate::call::Call;
 use crate::classes::Graded;
 use crate::desk::Desk;
-use crate::forms::{Form, Names};
+use crate::forms::Names;
 use crate::judge::{Judgment, judge};
+use crate::kinds::{Kind, Levelling, Triangulating};
+use crate::manner::Manner;
 use crate::misses::{Listing, Said};
 use crate::show::{CircuitShown, LegShown, show_circuit, show_leg};
 use crate::surveys::Survey;
-use records::refusal::{Fault, Part, Reason, Refusal};
+use crate::unanswered::Unanswered;
+use records::refusal::Fault;
+use records::word;
 use std::alloc::Global;
 use std::fmt;
-
-// The kind of a circuit's first word.
-const CIRCUIT: u32 = 6;
 
 #[derive(Drop)]
 pub(crate) enum Answer {
@@ -22,71 +23,28 @@ pub(crate) enum Answer {
     Done,
     Graded(Graded),
     Listed(Listing),
-    Refused(Refusal),
-    NoBook,
-    // what would be a call: one of this form, or of any
-    NotACall(Option<Form>),
-    NoMemory,
 }
 
-pub(crate) fn answer_to(heap: Global, desk: &mut Desk, text: &str) -> Answer {
-    let call = match Call::read(heap, text) {
-        Ok(call) => call,
-        Err(Unread::Name) => return Answer::NotACall(None),
-        Err(Unread::Arguments(form)) => return Answer::NotACall(Some(form)),
-        Err(Unread::Memory) => return Answer::NoMemory,
-    };
-    match carry_out(heap, desk, call) {
-        Ok(answer) => answer,
-        Err(Fault::Refused(refusal)) => Answer::Refused(refusal),
-        Err(Fault::Memory) => Answer::NoMemory,
-    }
-}
-
-fn carry_out(heap: Global, desk: &mut Desk, call: Call) -> Result<Answer, Fault> {
-    match call {
-        Call::Show(survey, words) => show(heap, survey, words.as_slice()),
-        Call::Judge(survey, words) => Ok(Answer::Judged(judge(heap, survey, words.as_slice())?)),
-        Call::Open(survey) => Ok(desk.open(heap, survey)),
-        Call::Ask(ask) => Ok(desk.ask(heap, ask)),
+pub(crate) fn answer_to(heap: Global, desk: &mut Desk, text: &str) -> Result<Answer, Unanswered> {
+    match Call::read(heap, text)? {
+        Call::Show(Survey::Level, words) => Ok(show::<Levelling>(heap, &words)?),
+        Call::Show(Survey::Triangulation, words) => Ok(show::<Triangulating>(heap, &words)?),
+        Call::Judge(Survey::Level, words) => Ok(Answer::Judged(judge::<Levelling>(heap, &words)?)),
+        Call::Judge(Survey::Triangulation, words) => {
+            Ok(Answer::Judged(judge::<Triangulating>(heap, &words)?))
+        }
+        Call::Open(survey) => desk.open(heap, survey),
+        Call::Ask(ask) => desk.ask(heap, ask),
     }
 }
 
 // A record is a circuit's where its first word is of a circuit's kind, and else a leg's.
-fn show(heap: Global, survey: Survey, words: &[u32]) -> Result<Answer, Fault> {
+fn show<K: Kind>(heap: Global, words: &[u32]) -> Result<Answer, Fault> {
     match words {
-        [head, ..] if head >> 28 == CIRCUIT => Ok(Answer::Circuit(show_circuit(
-            heap, survey, words,
+        [head, ..] if word::Kind::Circuit.is_of(*head) => Ok(Answer::Circuit(show_circuit::<K>(
+            heap, words,
         )?)),
-        _ => Ok(Answer::Leg(show_leg(survey, words)?)),
-    }
-}
-
-fn part(refusal: &Refusal) -> &'static str {
-    match refusal.reason.part() {
-        Part::Words => "words",
-        Part::Quantity => "quantity",
-        Part::Standard => "standard",
-        Part::Book => "book",
-    }
-}
-
-fn reason(refusal: &Refusal) -> &'static str {
-    match refusal.reason {
-        Reason::Layout => "a word is absent, surplus or of another kind than the layout's",
-        Reason::Range => "a number, a node or a zero bit breaks its range, or the nodes are equal",
-        Reason::Measure => "the value, the back value or the due sum is not accepted",
-        Reason::Observation => "the length or the readings are not accepted",
-        Reason::Form => "the form of the circuit is not accepted",
-        Reason::Taken => "the number already stands",
-        Reason::Absent => "the number does not stand",
-        Reason::InUse => "a standing circuit uses the leg",
-        Reason::Twice => "the leg is named twice",
-        Reason::Broken => "the leg does not begin where the one before it ended",
-        Reason::NoLeg => "no leg stands",
-        Reason::Loose => "no standing circuit uses the leg",
-        Reason::NoClass => "the class is not 1 to 5",
-        Reason::TooFew => "fewer words than misses",
+        _ => Ok(Answer::Leg(show_leg::<K>(words)?)),
     }
 }
 
@@ -99,40 +57,30 @@ impl fmt::Display for Answer {
             Answer::Done => write!(f, "done"),
             Answer::Graded(graded) => write!(f, "{graded}"),
             Answer::Listed(listing) => write!(f, "{listing}"),
-            Answer::NoBook => write!(f, "no book"),
-            Answer::Refused(refusal) => {
-                let (number, place) = (refusal.reason.number(), refusal.place);
-                let (part, reason) = (part(refusal), reason(refusal));
-                write!(f, "refused {number} {part} {place}: {reason}")
-            }
-            Answer::NotACall(_) => write!(f, "not a call"),
-            Answer::NoMemory => write!(f, "no memory"),
         }
     }
 }
 
-// An answer, with plain words behind it where it has none by itself.
+// An answer, or why there is none, as the manner wants it told.
 #[derive(Clone, Copy)]
 pub(crate) struct Told<'a> {
-    pub(crate) answer: &'a Answer,
+    pub(crate) manner: Manner,
+    pub(crate) answer: &'a Result<Answer, Unanswered>,
 }
 
 impl<'a> fmt::Display for Told<'a> {
     fn fmt<W: fmt::Write>(&self, f: &mut fmt::Formatter<W>) -> fmt::Result {
-        let answer = self.answer;
-        write!(f, "{answer}")?;
-        match answer {
-            Answer::Listed(listing) => {
-                let said = Said { listing };
-                write!(f, "{said}")
+        match self.answer {
+            Ok(answer) => write!(f, "{answer}")?,
+            Err(unanswered) => write!(f, "{unanswered}")?,
+        }
+        match (self.manner, self.answer) {
+            (Manner::Words, Ok(Answer::Listed(listing))) => write!(f, "{}", Said { listing }),
+            (Manner::Words, Err(Unanswered::NotACall(Some(form)))) => {
+                write!(f, ": write {}", form.written())
             }
-            Answer::NotACall(Some(form)) => {
-                let written = form.written();
-                write!(f, ": write {written}")
-            }
-            Answer::NotACall(None) => {
-                let names = Names;
-                write!(f, ": the calls are {names}")
+            (Manner::Words, Err(Unanswered::NotACall(None))) => {
+                write!(f, ": the calls are {}", Names)
             }
             _ => Ok(()),
         }

@@ -1,7 +1,8 @@
 // The calls, read from a line's text.
 use crate::forms::Form;
 use crate::surveys::Survey;
-use std::alloc::{AllocFailed, Global};
+use crate::unanswered::Unanswered;
+use std::alloc::Global;
 use std::str::SplitAsciiWhitespace;
 
 // The most words that `misses` is lent.
@@ -20,6 +21,8 @@ pub(crate) enum Call {
 // A call on the book that is open.
 #[derive(Drop)]
 pub(crate) enum Ask {
+    // puts a new, empty book in its place
+    Renew,
     Enter(Vec<u32>),
     Join(Vec<u32>),
     StrikeLeg(u32),
@@ -29,26 +32,11 @@ pub(crate) enum Ask {
     Misses(u8, Vec<u32>),
 }
 
-// Why a text gave no call.
-#[derive(Clone, Copy)]
-pub(crate) enum Unread {
-    // the first word is no call's name
-    Name,
-    // the arguments are not those of the call
-    Arguments(Form),
-    Memory,
-}
-
-impl<T: Drop> From<AllocFailed<T>> for Unread {
-    fn from(_refused: AllocFailed<T>) -> Unread {
-        Unread::Memory
-    }
-}
-
 impl Call {
-    pub(crate) fn read(heap: Global, text: &str) -> Result<Call, Unread> {
+    pub(crate) fn read(heap: Global, text: &str) -> Result<Call, Unanswered> {
         let mut words = text.split_ascii_whitespace();
-        let form = Form::named(words.next().unwrap_or("")).ok_or(Unread::Name)?;
+        let name = words.next().unwrap_or("");
+        let form = name.parse().map_err(|_| Unanswered::NotACall(None))?;
         let mut arguments = Arguments { form, words };
         let call = match form {
             Form::Show => Call::Show(arguments.survey()?, arguments.record(heap)?),
@@ -74,83 +62,62 @@ struct Arguments<'a> {
 }
 
 impl<'a> Arguments<'a> {
-    fn unfit(&self) -> Unread {
-        Unread::Arguments(self.form)
+    fn unfit(&self) -> Unanswered {
+        Unanswered::NotACall(Some(self.form))
     }
 
-    fn next(&mut self) -> Result<&'a str, Unread> {
-        match self.words.next() {
-            Some(word) => Ok(word),
-            None => Err(self.unfit()),
-        }
+    fn next(&mut self) -> Result<&'a str, Unanswered> {
+        self.words.next().ok_or(self.unfit())
     }
 
-    fn end(&mut self) -> Result<(), Unread> {
+    fn end(&mut self) -> Result<(), Unanswered> {
         match self.words.next() {
             None => Ok(()),
             Some(_) => Err(self.unfit()),
         }
     }
 
-    fn survey(&mut self) -> Result<Survey, Unread> {
-        match Survey::named(self.next()?) {
-            Some(survey) => Ok(survey),
-            None => Err(self.unfit()),
-        }
+    fn survey(&mut self) -> Result<Survey, Unanswered> {
+        self.next()?.parse().map_err(|_| self.unfit())
     }
 
     // A number in decimal. One that is too great for 32 bits is read as the greatest of them.
-    fn number(&mut self) -> Result<u32, Unread> {
-        let mut number: u32 = 0;
-        for digit in self.next()?.bytes() {
-            if !digit.is_ascii_digit() {
-                return Err(self.unfit());
-            }
-            number = number
-                .saturating_mul(10)
-                .saturating_add(u32::from(digit - b'0'));
+    fn number(&mut self) -> Result<u32, Unanswered> {
+        let digits = self.next()?;
+        if !digits.bytes().all(|digit| digit.is_ascii_digit()) {
+            return Err(self.unfit());
         }
-        Ok(number)
+        Ok(digits.parse().unwrap_or(u32::MAX))
     }
 
     // A class's number. One above 255 is read as 255, which is no class either.
-    fn class(&mut self) -> Result<u8, Unread> {
-        Ok(self.number()?.min(255) as u8)
+    fn class(&mut self) -> Result<u8, Unanswered> {
+        Ok(u8::try_from(self.number()?).unwrap_or(u8::MAX))
     }
 
     // As many words as the number says, all 0.
-    fn lent(&mut self, heap: Global) -> Result<Vec<u32>, Unread> {
+    fn lent(&mut self, heap: Global) -> Result<Vec<u32>, Unanswered> {
         let count = self.number()?;
         if count > MOST_LENT {
             return Err(self.unfit());
         }
-        let mut words = Vec::new(heap);
-        for _ in 0..count {
-            words.push(0)?;
-        }
-        Ok(words)
+        Ok(vec![in heap; 0; count as usize]?)
     }
 
     // The words of a record: all that are left.
-    fn record(&mut self, heap: Global) -> Result<Vec<u32>, Unread> {
+    fn record(&mut self, heap: Global) -> Result<Vec<u32>, Unanswered> {
         let unfit = self.unfit();
-        let mut words = Vec::new(heap);
-        for text in self.words.by_ref() {
-            words.push(word(text).ok_or(unfit)?)?;
-        }
-        Ok(words)
+        self.words
+            .by_ref()
+            .map(|text| word(text).ok_or(unfit))
+            .try_collect(heap)
     }
 }
 
 // A word in hexadecimal: one to eight digits, and nothing else.
 fn word(text: &str) -> Option<u32> {
-    if text.len() > 8 {
+    if text.len() > 8 || !text.bytes().all(|digit| digit.is_ascii_hexdigit()) {
         return None;
-    }
-    for digit in text.bytes() {
-        if !digit.is_ascii_hexdigit() {
-            return None;
-        }
     }
     u32::from_str_radix(text, 16).ok()
 }

@@ -20,19 +20,20 @@ pub(crate) struct Graded {
 
 impl fmt::Display for Graded {
     fn fmt<W: fmt::Write>(&self, f: &mut fmt::Formatter<W>) -> fmt::Result {
-        let count = self.grade.count;
+        let Grade { met, count, best } = self.grade;
         write!(f, "classes ")?;
         for class in CLASSES {
-            if self.grade.met.contains(class) {
-                let number = class.number();
-                write!(f, "{number}")?;
+            if met.contains(class) {
+                write!(f, "{}", class.number())?;
             }
         }
-        match self.grade.best {
-            Some(best) => {
-                let (number, name) = (best.number(), self.survey.class_name(best));
-                write!(f, " count {count} best {number}: {name}")
-            }
+        match best {
+            Some(best) => write!(
+                f,
+                " count {count} best {}: {}",
+                best.number(),
+                self.survey.class_name(best)
+            ),
             None => write!(f, "none count {count} best none: no class"),
         }
     }

@@ -2,16 +2,16 @@
 use crate::answer::Answer;
 use crate::call::Ask;
 use crate::classes::Graded;
+use crate::kinds::{Kind, Levelling, Triangulating};
 use crate::misses::Listing;
 use crate::surveys::Survey;
+use crate::unanswered::Unanswered;
 use calls::call;
 use calls::call::{Call, Reply};
 use calls::carrying::carry_out;
 use quantities::angles::Angles;
 use quantities::heights::Heights;
-use quantities::quantity::Quantity;
 use standards::level::LevelStandard;
-use standards::standard::Standard;
 use standards::triangulation::TriangulationStandard;
 use std::alloc::Global;
 use survey::book::Book;
@@ -33,33 +33,22 @@ impl Desk {
         }
     }
 
-    pub(crate) fn open(&mut self, heap: Global, survey: Survey) -> Answer {
+    pub(crate) fn open(&mut self, heap: Global, survey: Survey) -> Result<Answer, Unanswered> {
         self.open = Some(survey);
-        match survey {
-            Survey::Level => {
-                let call = Call::Open(Heights, LevelStandard);
-                carry(heap, survey, &mut self.heights, call)
-            }
-            Survey::Triangulation => {
-                let call = Call::Open(Angles, TriangulationStandard);
-                carry(heap, survey, &mut self.angles, call)
-            }
-        }
+        self.ask(heap, Ask::Renew)
     }
 
-    pub(crate) fn ask(&mut self, heap: Global, ask: Ask) -> Answer {
-        match self.open {
-            None => Answer::NoBook,
-            Some(Survey::Level) => { carry(heap, Survey::Level, &mut self.heights, call_of(ask)) }
-            Some(Survey::Triangulation) => {
-                carry(heap, Survey::Triangulation, &mut self.angles, call_of(ask))
-            }
+    pub(crate) fn ask(&mut self, heap: Global, ask: Ask) -> Result<Answer, Unanswered> {
+        match self.open.ok_or(Unanswered::NoBook)? {
+            Survey::Level => carry::<Levelling>(heap, &mut self.heights, ask),
+            Survey::Triangulation => carry::<Triangulating>(heap, &mut self.angles, ask),
         }
     }
 }
 
-fn call_of<Q, S>(ask: Ask) -> Call<Q, S> {
+fn call_of<K: Kind>(ask: Ask) -> Call<K::Quantity, K::Standard> {
     match ask {
+        Ask::Renew => Call::Open(K::QUANTITY, K::STANDARD),
         Ask::Enter(words) => Call::Enter(words),
         Ask::Join(words) => Call::Join(words),
         Ask::StrikeLeg(number) => Call::StrikeLeg(number),
@@ -70,38 +59,24 @@ fn call_of<Q, S>(ask: Ask) -> Call<Q, S> {
 }
 
 // Carries out a list of one call.
-fn carry<Q: Quantity + Drop, S: Standard + Drop>(
+fn carry<K: Kind>(
     heap: Global,
-    survey: Survey,
-    book: &mut Book<Q, S>,
-    call: Call<Q, S>,
-) -> Answer {
+    book: &mut Book<K::Quantity, K::Standard>,
+    ask: Ask,
+) -> Result<Answer, Unanswered> {
     let mut calls = Vec::new(heap);
-    if calls.push(call).is_err() {
-        return Answer::NoMemory;
-    }
-    let mut replies = carry_out(heap, book, calls);
-    match replies.pop() {
-        Some(reply) => answer(heap, survey, book, reply),
-        None => Answer::NoMemory,
-    }
-}
-
-fn answer<Q: Quantity, S>(heap: Global, survey: Survey, book: &Book<Q, S>, reply: Reply) -> Answer {
-    let Reply { answer, mut words } = reply;
-    let answer = match answer {
-        Ok(answer) => answer,
-        Err(refusal) => return Answer::Refused(refusal),
-    };
-    match answer {
-        call::Answer::Done => Answer::Done,
-        call::Answer::Graded(grade) => Answer::Graded(Graded { survey, grade }),
+    calls.push(call_of::<K>(ask))?;
+    let reply = carry_out(heap, book, calls).pop();
+    let Reply { answer, mut words } = reply.ok_or(Unanswered::NoMemory)?;
+    match answer? {
+        call::Answer::Done => Ok(Answer::Done),
+        call::Answer::Graded(grade) => Ok(Answer::Graded(Graded {
+            survey: K::SURVEY,
+            grade,
+        })),
         call::Answer::Listed(count) => {
             words.truncate(count);
-            match Listing::of(heap, survey, book, words) {
-                Ok(listing) => Answer::Listed(listing),
-                Err(_) => Answer::NoMemory,
-            }
+            Ok(Answer::Listed(Listing::of::<K>(heap, book, &words)?))
         }
     }
 }

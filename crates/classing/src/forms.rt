@@ -1,5 +1,7 @@
 // How each call is written, and what it does.
+use crate::names::NotAName;
 use std::fmt;
+use std::str::FromStr;
 
 #[derive(Clone, Copy)]
 pub(crate) enum Form {
@@ -59,14 +61,16 @@ impl Form {
     pub(crate) fn name(self) -> &'static str {
         self.written().split_ascii_whitespace().next().unwrap_or("")
     }
+}
 
-    pub(crate) fn named(name: &str) -> Option<Form> {
-        for form in FORMS {
-            if form.name() == name {
-                return Some(form);
-            }
-        }
-        None
+impl FromStr for Form {
+    type Err = NotAName;
+
+    fn from_str(name: &str) -> Result<Form, NotAName> {
+        FORMS
+            .into_iter()
+            .find(|form| form.name() == name)
+            .ok_or(NotAName)
     }
 }
 
@@ -76,12 +80,6 @@ pub(crate) struct Names;
 
 impl fmt::Display for Names {
     fn fmt<W: fmt::Write>(&self, f: &mut fmt::Formatter<W>) -> fmt::Result {
-        let mut before = "";
-        for form in FORMS {
-            let name = form.name();
-            write!(f, "{before}{name}")?;
-            before = ", ";
-        }
-        Ok(())
+        f.write_joined(FORMS.into_iter().map(Form::name), ", ")
     }
 }

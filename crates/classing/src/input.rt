@@ -1,8 +1,9 @@
 // An input that an argument names, its lines answered.
-use crate::answer::{Answer, Told, answer_to};
+use crate::answer::{Told, answer_to};
 use crate::desk::Desk;
 use crate::line::Line;
 use crate::manner::Manner;
+use crate::unanswered::Unanswered;
 use crate::usage::Usage;
 use std::io::{BufRead, BufReader, Read};
 use std::{fs, io};
@@ -14,15 +15,17 @@ pub(crate) enum Input<'a> {
     File(&'a str),
 }
 
-impl<'a> Input<'a> {
-    pub(crate) fn of(argument: &'a str) -> Input<'a> {
+impl<'a> From<&'a str> for Input<'a> {
+    fn from(argument: &'a str) -> Input<'a> {
         match argument {
             "--help" => Input::Help,
             "-" => Input::Standard,
             name => Input::File(name),
         }
     }
+}
 
+impl<'a> Input<'a> {
     pub(crate) fn name(self) -> &'a str {
         match self {
             Input::Help => "--help",
@@ -38,8 +41,7 @@ impl<'a> Input<'a> {
             Input::File(name) => match fs::open(rt, name) {
                 Ok(file) => answer_lines(rt, manner, name, file),
                 Err(error) => {
-                    let usage = Usage;
-                    eprintln!(rt; "classing: {name} cannot be opened: {error}\n{usage}")?;
+                    eprintln!(rt; "classing: {name} cannot be opened: {error}\n{}", Usage)?;
                     Err(error)
                 }
             },
@@ -48,8 +50,7 @@ impl<'a> Input<'a> {
 }
 
 fn tell_usage(rt: &HostRuntime) -> io::Result<()> {
-    let usage = Usage;
-    println!(rt; "{usage}")
+    println!(rt; "{}", Usage)
 }
 
 // Answers the lines of an input, with a desk of its own; in words, an input with no byte is told how the program is used.
@@ -65,7 +66,7 @@ fn answer_lines<R: Read + Drop>(
     for line in 0..u64::MAX {
         bytes.clear();
         match input.read_until(b'\n', &mut bytes) {
-            Ok(0) if line == 0 && matches!(manner, Manner::Words) => return tell_usage(rt),
+            Ok(0) if line == 0 && manner == Manner::Words => return tell_usage(rt),
             Ok(0) => break,
             Ok(_) => answer_line(rt, manner, &mut desk, bytes.as_slice())?,
             Err(error) => {
@@ -80,14 +81,10 @@ fn answer_lines<R: Read + Drop>(
 fn answer_line(rt: &HostRuntime, manner: Manner, desk: &mut Desk, bytes: &[u8]) -> io::Result<()> {
     let (text, answer) = match Line::read(bytes) {
         Line::Nothing => return Ok(()),
-        Line::Unreadable => ("(unreadable line)", Answer::NotACall(None)),
+        Line::Unreadable => ("(unreadable line)", Err(Unanswered::NotACall(None))),
         Line::Text(text) => (text, answer_to(rt.alloc(), desk, text)),
     };
-    match manner {
-        Manner::Letter => println!(rt; "{text} -> {answer}"),
-        Manner::Words => {
-            let told = Told { answer: &answer };
-            println!(rt; "{text} -> {told}")
-        }
-    }
+    let answer = &answer;
+    let told = Told { manner, answer };
+    println!(rt; "{text} -> {told}")
 }

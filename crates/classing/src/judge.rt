@@ -1,21 +1,15 @@
 // The classes that a leg meets by itself, and the rules that keep it from a better one.
 use crate::classes::{CLASSES, Graded};
-use crate::rules::Miss;
+use crate::kinds::Kind;
+use crate::rules::{Miss, RuleAt};
 use crate::show::accepted_leg;
-use crate::surveys::Survey;
 use grading::grade::Grade;
-use quantities::angles::Angles;
-use quantities::heights::Heights;
-use quantities::quantity::Quantity;
-use records::leg::Leg;
 use records::refusal::Fault;
 use standards::acceptance::accept_leg;
 use standards::class::Class;
 use standards::finding::LegFinding;
 use standards::gathering::gather;
-use standards::level::LevelStandard;
 use standards::standard::Standard;
-use standards::triangulation::TriangulationStandard;
 use std::alloc::Global;
 use std::fmt;
 
@@ -32,34 +26,26 @@ struct ClassMiss {
     miss: Miss,
 }
 
-pub(crate) fn judge(heap: Global, survey: Survey, words: &[u32]) -> Result<Judgment, Fault> {
-    let leg = accepted_leg(survey, words)?;
-    match survey {
-        Survey::Level => judge_by(heap, survey, &Heights, &LevelStandard, &leg),
-        Survey::Triangulation => judge_by(heap, survey, &Angles, &TriangulationStandard, &leg),
-    }
-}
-
-fn judge_by<Q: Quantity, S: Standard>(
-    heap: Global,
-    survey: Survey,
-    quantity: &Q,
-    standard: &S,
-    leg: &Leg,
-) -> Result<Judgment, Fault> {
-    accept_leg(standard, leg)?;
-    let finding = LegFinding::of(quantity, leg);
-    let met = gather(standard, &[finding]);
+pub(crate) fn judge<K: Kind>(heap: Global, words: &[u32]) -> Result<Judgment, Fault> {
+    let leg = accepted_leg::<K>(words)?;
+    let standard = K::STANDARD;
+    accept_leg(&standard, &leg)?;
+    let finding = LegFinding::of(&K::QUANTITY, &leg);
+    let met = gather(&standard, &[finding]);
+    let survey = K::SURVEY;
+    let better = CLASSES
+        .into_iter()
+        .take_while(|class| !met.contains(*class));
     let mut misses = Vec::new(heap);
-    for class in CLASSES {
-        if met.contains(class) {
-            break;
-        }
-        for rule in 0..standard.leg_rules() {
-            if standard.leg_classes(rule, &finding).contains(class) {
-                continue;
-            }
-            if let Some(miss) = Miss::of_leg(survey, rule, class, &finding) {
+    for class in better {
+        let meets = |rule| standard.leg_classes(rule, &finding).contains(class);
+        for rule in (0..standard.leg_rules()).filter(|rule| !meets(*rule)) {
+            let asked = RuleAt {
+                survey,
+                rule,
+                class,
+            };
+            if let Some(miss) = asked.leg_miss(&finding) {
                 misses.push(ClassMiss { class, miss })?;
             }
         }
@@ -71,11 +57,9 @@ fn judge_by<Q: Quantity, S: Standard>(
 
 impl fmt::Display for Judgment {
     fn fmt<W: fmt::Write>(&self, f: &mut fmt::Formatter<W>) -> fmt::Result {
-        let graded = self.graded;
-        write!(f, "{graded}")?;
+        write!(f, "{}", self.graded)?;
         for ClassMiss { class, miss } in self.misses.iter() {
-            let class = class.number();
-            write!(f, "; class {class} missed: {miss}")?;
+            write!(f, "; class {} missed: {miss}", class.number())?;
         }
         Ok(())
     }

@@ -22,10 +22,5 @@ impl<'a> Line<'a> {
 }
 
 fn is_plain(text: &str) -> bool {
-    for c in text.chars() {
-        if c.is_control() && c != '\t' {
-            return false;
-        }
-    }
-    true
+    text.chars().all(|c| !c.is_control() || c == '\t')
 }

@@ -1,5 +1,8 @@
 // How answers are told.
-#[derive(Clone, Copy)]
+use crate::names::NotAName;
+use std::str::FromStr;
+
+#[derive(Clone, Copy, PartialEq, Eq)]
 pub(crate) enum Manner {
     // as other programs read them
     Letter,
@@ -7,11 +10,13 @@ pub(crate) enum Manner {
     Words,
 }
 
-impl Manner {
-    pub(crate) fn named(argument: &str) -> Option<Manner> {
+impl FromStr for Manner {
+    type Err = NotAName;
+
+    fn from_str(argument: &str) -> Result<Manner, NotAName> {
         match argument {
-            "--words" => Some(Manner::Words),
-            _ => None,
+            "--words" => Ok(Manner::Words),
+            _ => Err(NotAName),
         }
     }
 }

@@ -1,8 +1,7 @@
 // The misses that a book lists: their words, and what they say.
-use crate::rules::Miss;
-use crate::surveys::Survey;
+use crate::kinds::Kind;
+use crate::rules::{Miss, RuleAt};
 use grading::findings::{circuit_finding, leg_finding, whole_finding};
-use quantities::quantity::Quantity;
 use standards::class::Class;
 use std::alloc::{AllocError, Global};
 use std::fmt;
@@ -11,8 +10,8 @@ use survey::book::Book;
 // A leg or a circuit, by its number, or the whole.
 #[derive(Clone, Copy)]
 enum Item {
-    Leg(u8),
-    Circuit(u8),
+    Leg(u16),
+    Circuit(u16),
     Whole,
 }
 
@@ -30,17 +29,23 @@ struct ItemMiss {
     miss: Miss,
 }
 
+#[derive(Clone, Copy)]
+struct Entry {
+    word: u32,
+    // what the word says
+    says: Option<ItemMiss>,
+}
+
 #[derive(Drop)]
 pub(crate) struct Listing {
-    words: Vec<u32>,
-    misses: Vec<ItemMiss>,
+    entries: Vec<Entry>,
 }
 
 impl Named {
     fn read(word: u32) -> Option<Named> {
-        let class = Class::new((word >> 24 & 0xf) as u8)?;
+        let class = Class::try_from((word >> 24 & 0xf) as u8).ok()?;
         let rule = ((word >> 12 & 0xff) as u8).checked_sub(1)?;
-        let number = u8::try_from(word & 0xfff).ok()?;
+        let number = (word & 0xfff) as u16;
         let item = match word >> 20 & 0xf {
             1 => Item::Leg(number),
             2 => Item::Circuit(number),
@@ -50,40 +55,47 @@ impl Named {
         Some(Named { class, item, rule })
     }
 
-    fn miss<Q: Quantity, S>(self, survey: Survey, book: &Book<Q, S>) -> Option<Miss> {
+    fn miss<K: Kind>(self, book: &Book<K::Quantity, K::Standard>) -> Option<Miss> {
         let Named { class, item, rule } = self;
+        let survey = K::SURVEY;
+        let asked = RuleAt {
+            survey,
+            rule,
+            class,
+        };
         match item {
-            Item::Leg(number) => Miss::of_leg(survey, rule, class, &leg_finding(book, number)?),
-            Item::Circuit(number) => {
-                Miss::of_circuit(survey, rule, class, &circuit_finding(book, number)?)
-            }
-            Item::Whole => Miss::of_whole(survey, rule, class, &whole_finding(book)),
+            Item::Leg(number) => asked.leg_miss(&leg_finding(book, number)?),
+            Item::Circuit(number) => asked.circuit_miss(&circuit_finding(book, number)?),
+            Item::Whole => asked.whole_miss(&whole_finding(book)),
         }
     }
 }
 
+impl ItemMiss {
+    fn read<K: Kind>(book: &Book<K::Quantity, K::Standard>, word: u32) -> Option<ItemMiss> {
+        let named = Named::read(word)?;
+        let miss = named.miss::<K>(book)?;
+        Some(ItemMiss {
+            item: named.item,
+            miss,
+        })
+    }
+}
+
 impl Listing {
-    // The book is the one that listed the words, so each names an item that stands.
-    pub(crate) fn of<Q: Quantity, S>(
+    // The book is the one that listed the words, so each says a miss of an item that stands.
+    pub(crate) fn of<K: Kind>(
         heap: Global,
-        survey: Survey,
-        book: &Book<Q, S>,
-        words: Vec<u32>,
+        book: &Book<K::Quantity, K::Standard>,
+        words: &[u32],
     ) -> Result<Listing, AllocError> {
-        let mut misses = Vec::new(heap);
-        for word in words.iter() {
-            let Some(named) = Named::read(*word) else {
-                continue;
-            };
-            let Some(miss) = named.miss(survey, book) else {
-                continue;
-            };
-            misses.push(ItemMiss {
-                item: named.item,
-                miss,
-            })?;
-        }
-        Ok(Listing { words, misses })
+        let entry = |word: &u32| Entry {
+            word: *word,
+            says: ItemMiss::read::<K>(book, *word),
+        };
+        Ok(Listing {
+            entries: words.iter().map(entry).collect(heap)?,
+        })
     }
 }
 
@@ -100,9 +112,8 @@ impl fmt::Display for ItemMiss {
 
 impl fmt::Display for Listing {
     fn fmt<W: fmt::Write>(&self, f: &mut fmt::Formatter<W>) -> fmt::Result {
-        let count = self.words.len();
-        write!(f, "misses {count}")?;
-        for word in self.words.iter() {
+        write!(f, "misses {}", self.entries.len())?;
+        for Entry { word, .. } in self.entries.iter() {
             write!(f, " {word:08X}")?;
         }
         Ok(())
@@ -117,11 +128,11 @@ pub(crate) struct Said<'a> {
 
 impl<'a> fmt::Display for Said<'a> {
     fn fmt<W: fmt::Write>(&self, f: &mut fmt::Formatter<W>) -> fmt::Result {
-        let mut before = ": ";
-        for miss in self.listing.misses.iter() {
-            write!(f, "{before}{miss}")?;
-            before = "; ";
+        let entries = &self.listing.entries;
+        if entries.is_empty() {
+            return Ok(());
         }
-        Ok(())
+        write!(f, ": ")?;
+        f.write_joined(entries.iter().filter_map(|entry| entry.says), "; ")
     }
 }

@@ -100,6 +100,14 @@ enum Asked {
     OutAndBack,
 }
 
+// A rule of a survey's standard at a class. Rules are numbered from 0; past the last there is none to miss.
+#[derive(Clone, Copy)]
+pub(crate) struct RuleAt {
+    pub(crate) survey: Survey,
+    pub(crate) rule: u8,
+    pub(crate) class: Class,
+}
+
 // A rule that is missed: what was found, and what the class asks.
 #[derive(Clone, Copy)]
 pub(crate) struct Miss {
@@ -164,71 +172,58 @@ impl Rule {
     }
 }
 
-// Rules are named by their number in the survey's standard, from 0; past the last there is none to miss.
-impl Miss {
-    pub(crate) fn of_leg(
-        survey: Survey,
-        rule: u8,
-        class: Class,
-        finding: &LegFinding,
-    ) -> Option<Miss> {
+impl RuleAt {
+    pub(crate) fn leg_miss(self, finding: &LegFinding) -> Option<Miss> {
+        let class = self.class;
         let readings = finding.readings;
         let (b, c) = (u64::from(readings.b), u64::from(readings.c));
-        match (survey, rule) {
-            (Survey::Level, 0) => Some(METHOD.at_least(class, readings.a)),
-            (Survey::Level, 1) => Some(LONGEST_SIGHT.at_most(class, b)),
-            (Survey::Level, 2) => Some(SIGHT_DIFFERENCE.at_most(class, c)),
-            (Survey::Level, 3) => Some(OWN_MISCLOSURE.at_most_over(
+        let miss = match (self.survey, self.rule) {
+            (Survey::Level, 0) => METHOD.at_least(class, readings.a),
+            (Survey::Level, 1) => LONGEST_SIGHT.at_most(class, b),
+            (Survey::Level, 2) => SIGHT_DIFFERENCE.at_most(class, c),
+            (Survey::Level, 3) => OWN_MISCLOSURE.at_most_over(
                 class,
                 finding.misclosure,
                 level::MISCLOSURE_FACTOR,
                 finding.length.metres,
-            )),
-            (Survey::Triangulation, 0) => Some(POSITIONS.at_least(class, readings.a)),
-            (Survey::Triangulation, 1) => Some(DEVIATION.at_most(class, b)),
-            (Survey::Triangulation, 2) => Some(LEAST_COUNT.at_most(class, c)),
-            _ => None,
-        }
+            ),
+            (Survey::Triangulation, 0) => POSITIONS.at_least(class, readings.a),
+            (Survey::Triangulation, 1) => DEVIATION.at_most(class, b),
+            (Survey::Triangulation, 2) => LEAST_COUNT.at_most(class, c),
+            _ => return None,
+        };
+        Some(miss)
     }
 
-    pub(crate) fn of_circuit(
-        survey: Survey,
-        rule: u8,
-        class: Class,
-        finding: &CircuitFinding,
-    ) -> Option<Miss> {
+    pub(crate) fn circuit_miss(self, finding: &CircuitFinding) -> Option<Miss> {
+        let class = self.class;
         let metres = finding.length.metres;
-        match (survey, rule) {
-            (Survey::Level, 0) => Some(CIRCUIT_CLOSURE.at_most_over(
+        let miss = match (self.survey, self.rule) {
+            (Survey::Level, 0) => CIRCUIT_CLOSURE.at_most_over(
                 class,
                 finding.closure,
                 level::CLOSURE_FACTOR,
                 metres,
-            )),
-            (Survey::Level, 1) => Some(SUMMED_MISCLOSURE.at_most_over(
+            ),
+            (Survey::Level, 1) => SUMMED_MISCLOSURE.at_most_over(
                 class,
                 finding.misclosure,
                 level::MISCLOSURE_FACTOR,
                 metres,
-            )),
-            (Survey::Level, 2) => Some(RUNNING.less(class, metres)),
-            (Survey::Triangulation, 0) => Some(TRIANGLE_CLOSURE.at_most(class, finding.closure)),
-            _ => None,
-        }
+            ),
+            (Survey::Level, 2) => RUNNING.less(class, metres),
+            (Survey::Triangulation, 0) => TRIANGLE_CLOSURE.at_most(class, finding.closure),
+            _ => return None,
+        };
+        Some(miss)
     }
 
-    pub(crate) fn of_whole(
-        survey: Survey,
-        rule: u8,
-        class: Class,
-        finding: &WholeFinding,
-    ) -> Option<Miss> {
-        match (survey, rule) {
-            (Survey::Triangulation, 0) => Some(SUM_OF_CLOSURES.at_most_each(
-                class,
-                finding.closures,
-                finding.circuits,
-            )),
+    pub(crate) fn whole_miss(self, finding: &WholeFinding) -> Option<Miss> {
+        let WholeFinding { circuits, closures } = *finding;
+        match (self.survey, self.rule) {
+            (Survey::Triangulation, 0) => {
+                Some(SUM_OF_CLOSURES.at_most_each(self.class, closures, circuits))
+            }
             _ => None,
         }
     }

@@ -1,20 +1,19 @@
 // What a record says, in plain words.
+use crate::kinds::Kind;
 use crate::surveys::Survey;
 use crate::units::Measure;
 use quantities::acceptance::{accept_due, accept_leg};
-use quantities::angles::Angles;
-use quantities::heights::Heights;
 use quantities::quantity::Quantity;
-use records::circuit::{Circuit, Sense};
-use records::leg::{Leg, Running};
+use records::circuit::{Circuit, LegUse, Sense};
+use records::leg::{Leg, Readings, Running};
 use records::refusal::{Fault, Refusal};
-use records::word::Payload;
 use std::alloc::Global;
 use std::fmt;
 
 // A leg, and what its quantity makes of it.
 #[derive(Clone, Copy)]
 pub(crate) struct LegShown {
+    survey: Survey,
     leg: Leg,
     value: Measure,
     back: Option<Measure>,
@@ -28,119 +27,78 @@ pub(crate) struct CircuitShown {
     due: Measure,
 }
 
-impl Survey {
-    fn measure(self, amount: i128) -> Measure {
-        Measure {
-            survey: self,
-            amount,
-        }
-    }
-
-    // What a payload says as a value or a due sum.
-    fn read(self, payload: Payload) -> Measure {
-        match self {
-            Survey::Level => self.measure(i128::from(payload.signed())),
-            Survey::Triangulation => self.measure(i128::from(payload.bits)),
-        }
-    }
-}
+// A leg as a circuit runs it.
+#[derive(Clone, Copy)]
+struct Run(LegUse);
 
 // The leg that the words are, where the survey's quantity accepts it.
-pub(crate) fn accepted_leg(survey: Survey, words: &[u32]) -> Result<Leg, Refusal> {
+pub(crate) fn accepted_leg<K: Kind>(words: &[u32]) -> Result<Leg, Refusal> {
     let leg = Leg::decode(words)?;
-    match survey {
-        Survey::Level => accept_leg(&Heights, &leg)?,
-        Survey::Triangulation => accept_leg(&Angles, &leg)?,
-    }
+    accept_leg(&K::QUANTITY, &leg)?;
     Ok(leg)
 }
 
-pub(crate) fn show_leg(survey: Survey, words: &[u32]) -> Result<LegShown, Refusal> {
-    let leg = accepted_leg(survey, words)?;
-    let (value, back) = (leg.value, leg.back);
-    let (contribution, misclosure) = match survey {
-        Survey::Level => (
-            Heights.contribution(value, back).signed(),
-            Heights.misclosure(value, back).signed(),
-        ),
-        Survey::Triangulation => (
-            Angles.contribution(value, back).signed(),
-            Angles.misclosure(value, back).signed(),
-        ),
-    };
+pub(crate) fn show_leg<K: Kind>(words: &[u32]) -> Result<LegShown, Refusal> {
+    let leg = accepted_leg::<K>(words)?;
     Ok(LegShown {
+        survey: K::SURVEY,
         leg,
-        value: survey.read(value),
-        back: match back {
-            None => None,
-            Some(back) => Some(survey.read(back)),
-        },
-        contribution: survey.measure(contribution),
-        misclosure: survey.measure(misclosure),
+        value: K::read(leg.value),
+        back: leg.back.map(|back| K::read(back)),
+        contribution: K::measure(K::QUANTITY.contribution(leg.value, leg.back)),
+        misclosure: K::measure(K::QUANTITY.misclosure(leg.value, leg.back)),
     })
 }
 
-pub(crate) fn show_circuit(
-    heap: Global,
-    survey: Survey,
-    words: &[u32],
-) -> Result<CircuitShown, Fault> {
+pub(crate) fn show_circuit<K: Kind>(heap: Global, words: &[u32]) -> Result<CircuitShown, Fault> {
     let circuit = Circuit::decode(heap, words)?;
-    match survey {
-        Survey::Level => accept_due(&Heights, circuit.due)?,
-        Survey::Triangulation => accept_due(&Angles, circuit.due)?,
-    }
-    let due = survey.read(circuit.due);
+    accept_due(&K::QUANTITY, circuit.due)?;
+    let due = K::read(circuit.due);
     Ok(CircuitShown { circuit, due })
 }
 
 impl fmt::Display for LegShown {
     fn fmt<W: fmt::Write>(&self, f: &mut fmt::Formatter<W>) -> fmt::Result {
-        let LegShown {
-            leg,
-            value,
-            back,
-            contribution,
-            misclosure,
-        } = *self;
-        let (number, start, end) = (leg.number.value, leg.start.value, leg.end.value);
-        let node = value.survey.node();
-        write!(f, "leg {number}, {node} {start} to {end}: value {value}")?;
-        if let Some(back) = back {
+        let leg = &self.leg;
+        write!(
+            f,
+            "leg {}, {} {} to {}: value {}",
+            leg.number.value,
+            self.survey.node(),
+            leg.start.value,
+            leg.end.value,
+            self.value
+        )?;
+        if let Some(back) = self.back {
             write!(f, ", back {back}")?;
         }
-        let metres = leg.length.metres;
-        let (a, b, c) = (leg.readings.a, leg.readings.b, leg.readings.c);
+        let Readings { a, b, c } = leg.readings;
         let running = match leg.running() {
             Running::Single => "single",
             Running::Double => "double",
         };
         write!(
             f,
-            ", length {metres} m, readings {a} {b} {c}, {running} run"
-        )?;
-        write!(
-            f,
-            "; contribution {contribution}, own misclosure {misclosure}"
+            ", length {} m, readings {a} {b} {c}, {running} run; contribution {}, own misclosure {}",
+            leg.length.metres, self.contribution, self.misclosure
         )
+    }
+}
+
+impl fmt::Display for Run {
+    fn fmt<W: fmt::Write>(&self, f: &mut fmt::Formatter<W>) -> fmt::Result {
+        let Run(LegUse { leg, sense }) = self;
+        match sense {
+            Sense::Along => write!(f, "{}", leg.value),
+            Sense::Against => write!(f, "{} against", leg.value),
+        }
     }
 }
 
 impl fmt::Display for CircuitShown {
     fn fmt<W: fmt::Write>(&self, f: &mut fmt::Formatter<W>) -> fmt::Result {
-        let number = self.circuit.number.value;
-        let due = self.due;
-        write!(f, "circuit {number}: due sum {due}, legs")?;
-        let mut comma = "";
-        for leg_use in self.circuit.legs.iter() {
-            let leg = leg_use.leg.value;
-            let against = match leg_use.sense {
-                Sense::Along => "",
-                Sense::Against => " against",
-            };
-            write!(f, "{comma} {leg}{against}")?;
-            comma = ",";
-        }
-        Ok(())
+        let Circuit { number, legs, .. } = &self.circuit;
+        write!(f, "circuit {}: due sum {}, legs ", number.value, self.due)?;
+        f.write_joined(legs.iter().map(|used| Run(*used)), ", ")
     }
 }

@@ -1,5 +1,7 @@
 // The two kinds of survey, and what they call nodes and classes.
+use crate::names::NotAName;
 use standards::class::Class;
+use std::str::FromStr;
 
 #[derive(Clone, Copy)]
 pub(crate) enum Survey {
@@ -7,15 +9,19 @@ pub(crate) enum Survey {
     Triangulation,
 }
 
-impl Survey {
-    pub(crate) fn named(word: &str) -> Option<Survey> {
-        match word {
-            "level" => Some(Survey::Level),
-            "triangulation" => Some(Survey::Triangulation),
-            _ => None,
+impl FromStr for Survey {
+    type Err = NotAName;
+
+    fn from_str(name: &str) -> Result<Survey, NotAName> {
+        match name {
+            "level" => Ok(Survey::Level),
+            "triangulation" => Ok(Survey::Triangulation),
+            _ => Err(NotAName),
         }
     }
+}
 
+impl Survey {
     pub(crate) fn node(self) -> &'static str {
         match self {
             Survey::Level => "bench mark",

@@ -1,28 +1,38 @@
 // Measures and figures in their units.
-use crate::surveys::Survey;
 use std::fmt;
 
-// A whole number of hundredths, with two decimals.
+// A whole number, and the rest behind its point in so many places.
 #[derive(Clone, Copy)]
-struct Hundredths(u128);
+struct Decimal {
+    whole: u128,
+    rest: u128,
+    places: usize,
+}
 
-impl fmt::Display for Hundredths {
-    fn fmt<W: fmt::Write>(&self, f: &mut fmt::Formatter<W>) -> fmt::Result {
-        let whole = self.0 / 100;
-        let rest = self.0 % 100;
-        write!(f, "{whole}.{rest:02}")
+fn hundredths(amount: u128) -> Decimal {
+    Decimal {
+        whole: amount / 100,
+        rest: amount % 100,
+        places: 2,
     }
 }
 
-// A whole number of thousandths, with three decimals.
-#[derive(Clone, Copy)]
-struct Thousandths(u128);
+fn thousandths(amount: u128) -> Decimal {
+    Decimal {
+        whole: amount / 1_000,
+        rest: amount % 1_000,
+        places: 3,
+    }
+}
 
-impl fmt::Display for Thousandths {
+impl fmt::Display for Decimal {
     fn fmt<W: fmt::Write>(&self, f: &mut fmt::Formatter<W>) -> fmt::Result {
-        let whole = self.0 / 1_000;
-        let rest = self.0 % 1_000;
-        write!(f, "{whole}.{rest:03}")
+        let Decimal {
+            whole,
+            rest,
+            places,
+        } = *self;
+        write!(f, "{whole}.{rest:0places$}")
     }
 }
 
@@ -32,41 +42,40 @@ struct Arc(u128);
 
 impl fmt::Display for Arc {
     fn fmt<W: fmt::Write>(&self, f: &mut fmt::Formatter<W>) -> fmt::Result {
-        let degrees = self.0 / 360_000;
-        let minutes = self.0 / 6_000 % 60;
-        let seconds = self.0 / 100 % 60;
-        let rest = self.0 % 100;
         write!(
             f,
-            "{degrees} deg {minutes:02} min {seconds:02}.{rest:02} sec"
+            "{} deg {:02} min {:02}.{:02} sec",
+            self.0 / 360_000,
+            self.0 / 6_000 % 60,
+            self.0 / 100 % 60,
+            self.0 % 100
         )
     }
 }
 
-// What a survey measures: a height difference in 0.01 mm, or an angle in 0.01 seconds of arc.
+// What a survey measures.
 #[derive(Clone, Copy)]
-pub(crate) struct Measure {
-    pub(crate) survey: Survey,
-    pub(crate) amount: i128,
+pub(crate) enum Measure {
+    // a height difference in 0.01 mm
+    Height(i128),
+    // an angle in 0.01 seconds of arc
+    Angle(i128),
 }
 
 impl fmt::Display for Measure {
     fn fmt<W: fmt::Write>(&self, f: &mut fmt::Formatter<W>) -> fmt::Result {
-        let size = self.amount.unsigned_abs();
-        if self.amount < 0 {
-            write!(f, "-")?;
-        }
-        match self.survey {
-            Survey::Level => {
-                if self.amount > 0 {
-                    write!(f, "+")?;
-                }
-                let size = Hundredths(size);
-                write!(f, "{size} mm")
+        match *self {
+            Measure::Height(amount) => {
+                let sign = match amount.signum() {
+                    -1 => "-",
+                    0 => "",
+                    _ => "+",
+                };
+                write!(f, "{sign}{} mm", hundredths(amount.unsigned_abs()))
             }
-            Survey::Triangulation => {
-                let size = Arc(size);
-                write!(f, "{size}")
+            Measure::Angle(amount) => {
+                let sign = if amount < 0 { "-" } else { "" };
+                write!(f, "{sign}{}", Arc(amount.unsigned_abs()))
             }
         }
     }
@@ -94,26 +103,27 @@ pub(crate) struct Figure {
     pub(crate) unit: Unit,
 }
 
+fn method_name(method: u64) -> &'static str {
+    match method {
+        1 => "centre wire",
+        2 => "three-wire",
+        3 => "micrometer",
+        _ => "unknown",
+    }
+}
+
 impl fmt::Display for Figure {
     fn fmt<W: fmt::Write>(&self, f: &mut fmt::Formatter<W>) -> fmt::Result {
         let amount = self.amount;
-        let decimal = Hundredths(u128::from(amount));
-        let halved = Thousandths(u128::from(amount) * 5);
+        let decimal = hundredths(u128::from(amount));
         match self.unit {
             Unit::One => write!(f, "{amount}"),
-            Unit::Method => {
-                let name = match amount {
-                    1 => "centre wire",
-                    2 => "three-wire",
-                    3 => "micrometer",
-                    _ => "unknown",
-                };
-                write!(f, "{amount} ({name})")
-            }
+            Unit::Method => write!(f, "{amount} ({})", method_name(amount)),
             Unit::Metre => write!(f, "{amount} m"),
             Unit::Decimetre => write!(f, "{amount} dm"),
             Unit::Millimetre => write!(f, "{decimal} mm"),
-            Unit::DoubledMillimetre => write!(f, "{halved} mm"),
+            // half a hundredth is five thousandths
+            Unit::DoubledMillimetre => write!(f, "{} mm", thousandths(u128::from(amount) * 5)),
             Unit::Second => write!(f, "{decimal} seconds"),
         }
     }

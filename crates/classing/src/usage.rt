@@ -15,10 +15,9 @@ Blank lines and lines that begin with # are passed over.";
 
 impl fmt::Display for Usage {
     fn fmt<W: fmt::Write>(&self, f: &mut fmt::Formatter<W>) -> fmt::Result {
-        write!(f, "{INPUTS}\n")?;
+        writeln!(f, "{INPUTS}")?;
         for form in FORMS {
-            let (written, does) = (form.written(), form.does());
-            write!(f, "  {written:<34}{does}\n")?;
+            writeln!(f, "  {:<34}{}", form.written(), form.does())?;
         }
         write!(f, "{WORDS}")
     }

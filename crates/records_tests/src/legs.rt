@@ -101,7 +101,7 @@ fn fields(rt: HostRuntime) -> Result<(), Fail> {
     let leg = Leg::decode(&[HEAD, VALUE, LENGTH, READINGS, BACK])?;
     assert_eq!(rt;
         (leg.number.value, leg.start.value, leg.end.value),
-        (1u8, 1u16, 2u16)
+        (1u16, 1u16, 2u16)
     );
     assert_eq!(rt; leg.value.signed(), 10_000);
     assert_eq!(rt; leg.length.metres, 1_000);

@@ -223,7 +223,7 @@ fn triangles(rt: HostRuntime) -> Result<(), Fail> {
         for (index, (third, size)) in thirds.iter().enumerate() {
             assert!(rt; index < 2);
             add_triangle(&rt, &mut book, index as u32, *third)?;
-            match circuit_finding(&book, index as u8 + 1) {
+            match circuit_finding(&book, index as u16 + 1) {
                 Some(finding) => assert_eq!(rt; finding.closure, *size),
                 None => return Err(Fail::new("no circuit")),
             }
