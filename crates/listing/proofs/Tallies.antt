@@ -23,6 +23,7 @@ use Rattle.survey.specs.declared.book.Book.{Book}
 use Rattle.survey.specs.Books.{surveyed}
 use Rattle.survey.specs.Numbered.{Numbered, table}
 use Rattle.survey.specs.Standing.{own_leg, own_circuit}
+use Rattle.listing.specs.Listed.{item_listing}
 use Rattle.listing.specs.Writing.{put}
 use Rattle.survey.proofs.Orders.{vals_stand, few_values}
 use Rattle.survey.proofs.Tables.{every_at}
@@ -41,28 +42,25 @@ module _ {Finding : Type 0} {kind : Kind Finding} {better : Directions} (rules :
       go true h = omega arith
       go false h = omega arith
 
-  module _ {X Y : Type 0} (num : X → ℕ) (g : X → Y) (f : Y → Finding) where
+  module _ {X : Type 0} (number : X → ℕ) (shown : X → Finding) where
     abbrev pub listing : X → List ℕ
-    listing x = item_misses rules k place (num x) (Some (f (g x)))
-
-    pub listing_few : (x : X) → length (listing x) ≤ 255
-    listing_few x = omega (arith, rules_few (num x) (f (g x)) 0 rules.count, rules.few)
+    listing = item_listing rules k place number shown
 
     pub joined_few : (xs : List X) → length (flat_map listing xs) ≤ 255 * length xs
     joined_few [] = omega arith
-    joined_few (x ∷ xs) = omega (arith, length-append (listing x) (flat_map listing xs), listing_few x, joined_few xs)
+    joined_few (x ∷ xs) = omega (arith, length-append (listing x) (flat_map listing xs), rules_few (number x) (shown x) 0 rules.count, rules.few, joined_few xs)
 
-    misses_joined : (t : ℕ → Option X) → ((n : ℕ) (x : X) → t n ≡ Some x → num x ≡ n) → (ns : List ℕ) → misses_of rules k place (λ n. option_map f (option_map g (t n))) ns ≡ flat_map listing (standing t ns)
-    misses_joined t own [] = refl
-    misses_joined t own (n ∷ ns) = go (t n) refl (misses_joined t own ns)
+    misses_joined : {Y : Type 0} (g : X → Y) (f : Y → Finding) → ((x : X) → f (g x) ≡ shown x) → (t : ℕ → Option X) → ((n : ℕ) (x : X) → t n ≡ Some x → number x ≡ n) → (ns : List ℕ) → misses_of rules k place (λ n. option_map f (option_map g (t n))) ns ≡ flat_map listing (standing t ns)
+    misses_joined g f same t own [] = refl
+    misses_joined g f same t own (n ∷ ns) = go (t n) refl (misses_joined g f same t own ns)
       where
         go : (o : Option X) → t n ≡ o → misses_of rules k place (λ n. option_map f (option_map g (t n))) ns ≡ flat_map listing (standing t ns) →
             item_misses rules k place n (option_map f (option_map g o)) ++ misses_of rules k place (λ n. option_map f (option_map g (t n))) ns ≡ flat_map listing (option_to_list o ++ standing t ns)
         go None is rest = rest
-        go (Some x) is rest = ap₂ (λ m xs. item_misses rules k place m (Some (f (g x))) ++ xs) (sym (own n x is)) rest
+        go (Some x) is rest = ap₂ ◌++◌ (ap₂ (λ m y. item_misses rules k place m (Some y)) (sym (own n x is)) (same x)) rest
 
-    pub map_joined : (high : ℕ) (m : BTreeMap ℕ X) → Numbered high m → ((n : ℕ) (x : X) → table m n ≡ Some x → num x ≡ n) → misses_of rules k place (λ n. option_map f (option_map g (table m n))) (range_with_len 1 high) ≡ flat_map listing (values m)
-    map_joined high m o own = misses_joined (table m) own (range_with_len 1 high) ∙ ap (flat_map listing) (vals_stand high m o)
+    pub map_joined : {Y : Type 0} (g : X → Y) (f : Y → Finding) → ((x : X) → f (g x) ≡ shown x) → (high : ℕ) (m : BTreeMap ℕ X) → Numbered high m → ((n : ℕ) (x : X) → table m n ≡ Some x → number x ≡ n) → misses_of rules k place (λ n. option_map f (option_map g (table m n))) (range_with_len 1 high) ≡ flat_map listing (values m)
+    map_joined g f same high m o own = misses_joined g f same (table m) own (range_with_len 1 high) ∙ ap (flat_map listing) (vals_stand high m o)
 
 -- ---- values listed one after another
 -- what is listed so far, with what is left, gives all
@@ -91,28 +89,28 @@ module _ {X : Type 0} (list : X → List ℕ) where
 -- ---- a book's legs and circuits
 module _ {Q S Element : Type 0} (q : Terms Element) (s : Rules) (b : Book Q S) (k : Class) where
   abbrev pub leg_listing : Leg → List ℕ
-  leg_listing = listing s.legs k leg_place (λ l. l.number.value) leg_record (leg_finding q)
+  leg_listing = listing s.legs k leg_place (λ l. l.number.value) (λ l. leg_finding q (leg_record l))
 
   abbrev pub circuit_listing : Circuit → List ℕ
-  circuit_listing = listing s.circuits k circuit_place (λ c. c.number.value) circuit_record (circuit_finding q (surveyed b))
+  circuit_listing = listing s.circuits k circuit_place (λ c. c.number.value) (λ c. circuit_finding q (surveyed b) (circuit_record c))
 
   pub legs_joined : leg_misses q s (surveyed b) k ≡ flat_map leg_listing (values b.legs)
   unfolding leg_numbers
   legs_joined =
-      map_joined s.legs k leg_place (λ l. l.number.value) leg_record (leg_finding q) 128 b.legs b.legs_numbered (λ n l e. eqb-true _ n (passed _ (every_at own_leg b.legs b.own_legs n l e)))
+      map_joined s.legs k leg_place (λ l. l.number.value) (λ l. leg_finding q (leg_record l)) leg_record (leg_finding q) (λ l. refl) 128 b.legs b.legs_numbered (λ n l e. eqb-true _ n (passed _ (every_at own_leg b.legs b.own_legs n l e)))
 
   pub circuits_joined : circuit_misses q s (surveyed b) k ≡ flat_map circuit_listing (values b.circuits)
   unfolding circuit_numbers
   circuits_joined =
-      map_joined s.circuits k circuit_place (λ c. c.number.value) circuit_record (circuit_finding q (surveyed b)) 32 b.circuits b.circuits_numbered (λ n c e. eqb-true _ n (passed _ (every_at own_circuit b.circuits b.own_circuits n c e)))
+      map_joined s.circuits k circuit_place (λ c. c.number.value) (λ c. circuit_finding q (surveyed b) (circuit_record c)) circuit_record (circuit_finding q (surveyed b)) (λ c. refl) 32 b.circuits b.circuits_numbered (λ n c e. eqb-true _ n (passed _ (every_at own_circuit b.circuits b.own_circuits n c e)))
 
   pub legs_few : length (flat_map leg_listing (values b.legs)) ≤ 32640
   legs_few =
-      omega (arith, joined_few s.legs k leg_place (λ l. l.number.value) leg_record (leg_finding q) (values b.legs), few_values 128 b.legs b.legs_numbered)
+      omega (arith, joined_few s.legs k leg_place (λ l. l.number.value) (λ l. leg_finding q (leg_record l)) (values b.legs), few_values 128 b.legs b.legs_numbered)
 
   pub circuits_few : length (flat_map circuit_listing (values b.circuits)) ≤ 8160
   circuits_few =
-      omega (arith, joined_few s.circuits k circuit_place (λ c. c.number.value) circuit_record (circuit_finding q (surveyed b)) (values b.circuits), few_values 32 b.circuits b.circuits_numbered)
+      omega (arith, joined_few s.circuits k circuit_place (λ c. c.number.value) (λ c. circuit_finding q (surveyed b) (circuit_record c)) (values b.circuits), few_values 32 b.circuits b.circuits_numbered)
 
   pub all_few : length (survey_misses q s (surveyed b) k) ≤ 41055
   all_few =

@@ -1,2 +1,3 @@
 pub mod Writing
 pub mod Answered
+pub mod Listed

@@ -10,55 +10,52 @@ use standards::standard::Standard;
 // Where an item stands.
 #[derive(Clone, Copy)]
 pub(crate) enum Place {
-    Leg,
-    Circuit,
-    Whole,
+    Leg = 1,
+    Circuit = 2,
+    Whole = 3,
 }
 
-impl Place {
-    fn number(self) -> u32
-        ensures { result ≡ place_number self }
+// An item, and the class at which its misses are asked for.
+#[derive(Clone, Copy)]
+pub(crate) struct Asked {
+    pub(crate) class: Class,
+    pub(crate) place: Place,
+    // the item's number, 0 for the whole
+    pub(crate) item: u16,
+}
+
+impl Asked {
+    // The word of a miss of the rule, which is counted from 0; the word counts it from 1.
+    fn word(self, rule: u8) -> u32
+        requires { rule < 255 }
+        ensures { result ≡ miss_word self.class (place_number self.place) (suc rule) self.item }
     {
-        match self {
-            Place::Leg => 1,
-            Place::Circuit => 2,
-            Place::Whole => 3,
-        }
+        (12 << 28)
+            + (u32::from(self.class.number()) << 24)
+            + ((self.place as u32) << 20)
+            + ((u32::from(rule) + 1) << 12)
+            + u32::from(self.item)
     }
-}
-
-// A miss of the rule, which is counted from 0; the word counts it from 1.
-fn miss_word(class: Class, place: Place, rule: u8, item: u16) -> u32
-    requires { rule < 255 }
-    ensures { result ≡ miss_word class (place_number place) (suc rule) item }
-{
-    (12 << 28)
-        + ((class.number() as u32) << 24)
-        + (place.number() << 20)
-        + ((rule as u32 + 1) << 12)
-        + u32::from(item)
 }
 
 // Lists the rules that the finding misses at the class: a word for each, from an index on, as far as there are words. Says where the
 // list ends, which may be beyond them.
 pub(crate) fn list_misses<S: Standard, F: Finding>(
     standard: &S,
-    class: Class,
-    place: Place,
-    item: u16,
+    asked: Asked,
     finding: &F,
     words: &mut [u32],
     start: usize,
 ) -> usize
     requires { start < 2 ^ 32 }
-    ensures end { result ≡ start + length (item_misses (F.Finding.table (S.Standard.meaning standard.now)) class (place_number place) item (Some finding.now)) }
-    ensures after { words.new ≡ put start (item_misses (F.Finding.table (S.Standard.meaning standard.now)) class (place_number place) item (Some finding.now)) words.old }
+    ensures end { result ≡ start + length (item_misses (F.Finding.table (S.Standard.meaning standard.now)) asked.class (place_number asked.place) asked.item (Some finding.now)) }
+    ensures after { words.new ≡ put start (item_misses (F.Finding.table (S.Standard.meaning standard.now)) asked.class (place_number asked.place) asked.item (Some finding.now)) words.old }
 {
     let mut at = start;
     for rule in 0..F::rules(standard) {
-        if !finding.classes(standard, rule).contains(class) {
+        if !finding.classes(standard, rule).contains(asked.class) {
             if at < words.len() {
-                words[at] = miss_word(class, place, rule, item);
+                words[at] = asked.word(rule);
             }
             at += 1;
         }

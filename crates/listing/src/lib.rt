@@ -3,3 +3,4 @@
 
 mod item;
 pub mod list;
+mod standing;

@@ -110,6 +110,9 @@ fn fields(rt: HostRuntime) -> Result<(), Fail> {
         let against = matches!(leg_use.sense, Sense::Against);
         named.push((leg_use.leg.value, against))?;
     }
-    assert_eq!(rt; named.as_slice(), [(128u16, false), (2u16, true)].as_slice());
+    assert_eq!(rt;
+        named.as_slice(),
+        [(128u16, false), (2u16, true)].as_slice()
+    );
     Ok(())
 }

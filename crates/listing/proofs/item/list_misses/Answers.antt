@@ -9,24 +9,24 @@ use Rattle.listing.proofs.item.list_misses.Goals.{then-not-contains, then-at-wor
 pub loop-rule-preserved : goal.loop-rule-preserved
 loop-rule-preserved g c =
     let table = g.F.Finding.table (g.S.Standard.meaning c.args.standard.now) in
-    let k = c.args.class in
-    let place = place_number c.args.place in
+    let k = c.args.asked.class in
+    let place = place_number c.args.asked.place in
     let f = c.args.finding.now in
     let rule = c.loop-rule.rule in
     let at = c.loop-rule.at in
     let ws = c.loop-rule.words in
     let here : rule < table.count = omega (arith, c.rules-rule-end.ensures, c.loop-rule-test.true) in
-    let rest = left table k place c.args.item f (rule + 1) in
+    let rest = left table k place c.args.asked.item f (rule + 1) in
     let asked = sym (c.classes.ensures k) ∙ sym c.contains.ensures in
     elim c.if-not-contains.branch [
       | then-not-contains w ↦
-          let step = next_missed table k place c.args.item f rule here (asked ∙ w.if-not-contains.true) in
-          let wrote : put (at + 1) rest w.if-at-words.words ≡ put at (miss_word k place (suc rule) c.args.item ∷ rest) ws =
+          let step = next_missed table k place c.args.asked.item f rule here (asked ∙ w.if-not-contains.true) in
+          let wrote : put (at + 1) rest w.if-at-words.words ≡ put at (miss_word k place (suc rule) c.args.asked.item ∷ rest) ws =
           elim w.if-at-words.branch [
             | then-at-words v ↦
                 ap (put (at + 1) rest) v.words-is
                 ∙ put_one at _ rest ws (omega (arith, v.if-at-words.true))
-                ∙ ap (λ m. put at (m ∷ rest) ws) v.miss_word.ensures
+                ∙ ap (λ m. put at (m ∷ rest) ws) v.word.ensures
             | else-at-words v ↦ ap (put (at + 1) rest) v.words-is ∙ put_past at _ rest ws (omega (arith, v.if-at-words.false))
           ] in (
             omega (arith, ap length step, w.at-is, c.loop-rule.invariant.0),
@@ -34,7 +34,7 @@ loop-rule-preserved g c =
             ap₂ (λ at ws. put at rest ws) w.at-is w.words-is ∙ wrote ∙ ap (λ new. put at new ws) (sym step) ∙ c.loop-rule.invariant.2,
           )
       | else-not-contains w ↦
-          let step = next_met table k place c.args.item f rule here (asked ∙ w.if-not-contains.false) in (
+          let step = next_met table k place c.args.asked.item f rule here (asked ∙ w.if-not-contains.false) in (
             omega (arith, ap length step, w.at-is, c.loop-rule.invariant.0),
             omega (arith, w.at-is, c.loop-rule.invariant.1),
             ap₂ (λ at ws. put at rest ws) w.at-is w.words-is ∙ ap (λ new. put at new ws) (sym step) ∙ c.loop-rule.invariant.2,
@@ -44,13 +44,13 @@ loop-rule-preserved g c =
 pub returns : goal.returns
 returns g c =
     let table = g.F.Finding.table (g.S.Standard.meaning c.args.standard.now) in
-    let k = c.args.class in
-    let place = place_number c.args.place in
+    let k = c.args.asked.class in
+    let place = place_number c.args.asked.place in
     let f = c.args.finding.now in
     let rule = c.loop-rule.rule in
     let past : table.count ≤ rule = omega (arith, c.rules-rule-end.ensures, c.loop-rule-test.false) in
-    let none = none_left table k place c.args.item f rule past in
-    let all = all_left table k place c.args.item f in
+    let none = none_left table k place c.args.asked.item f rule past in
+    let all = all_left table k place c.args.asked.item f in
     record {
       end = omega (arith, c.loop-rule.invariant.0, ap length none, ap length all);
       after =

@@ -7,8 +7,8 @@ use Rattle.listing.proofs.item.list_misses.Given as goal
 abbrev pub invariant-loop-rule : goal.invariant-loop-rule
 invariant-loop-rule g l =
     let table = g.F.Finding.table (g.S.Standard.meaning l.standard) in
-    let now-left = left table l.class (place_number l.place) l.item l.finding l.rule in
-    let all = left table l.class (place_number l.place) l.item l.finding 0 in
+    let now-left = left table l.asked.class (place_number l.asked.place) l.asked.item l.finding l.rule in
+    let all = left table l.asked.class (place_number l.asked.place) l.asked.item l.finding 0 in
     (l.at + length now-left ≡ l.start + length all)
     × (l.at ≤ l.start + l.rule)
     × (put l.at now-left l.words ≡ put l.start all l.initial.words)
