@@ -10,14 +10,7 @@ use crate::class_set::ClassSet;
 pub fn limit(limits: [u16; 5], class: Class) -> u16
     ensures { result ≡ limit limits class }
 {
-    let [first, second, third, fourth, fifth] = limits;
-    match class {
-        Class::First => first,
-        Class::Second => second,
-        Class::Third => third,
-        Class::Fourth => fourth,
-        Class::Fifth => fifth,
-    }
+    limits[class as usize - 1]
 }
 
 pub fn at_least(value: u8, limits: [u16; 5]) -> ClassSet

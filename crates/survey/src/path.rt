@@ -30,10 +30,8 @@ impl Path {
     pub fn joins(self, run: &Run<'_>) -> bool
         ensures { result ≡ not (breaks (come_to self) (Some (run_record run.now))) }
     {
-        match self.nodes {
-            None => true,
-            Some((_, come)) => come == run.nodes().0,
-        }
+        let (begin, _) = run.nodes();
+        self.nodes.is_none_or(|(_, come)| come == begin)
     }
 
     // The way with one leg more.
@@ -41,10 +39,7 @@ impl Path {
         ensures { result ≡ followed self (run_record run.now) }
     {
         let (begin, end) = run.nodes();
-        let begun = match self.nodes {
-            None => begin,
-            Some((begun, _)) => begun,
-        };
+        let begun = self.nodes.map_or(begin, |(begun, _)| begun);
         Path {
             nodes: Some((begun, end)),
             legs: self.legs.saturating_add(1),
@@ -55,10 +50,7 @@ impl Path {
     pub fn form(self) -> Form
         ensures { result ≡ path_form self }
     {
-        let closed = match self.nodes {
-            None => false,
-            Some((begun, come)) => begun == come,
-        };
+        let closed = self.nodes.is_some_and(|(begun, come)| begun == come);
         Form {
             closed,
             legs: self.legs,
