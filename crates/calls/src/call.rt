@@ -1,4 +1,5 @@
-// Calls as values, and what each is answered.
+// Calls as values, and what each is answered. The calls are seven and no more, so an enum and a match stand where closures would say
+// less.
 use grading::grade::Grade;
 use records::refusal::Refusal;
 

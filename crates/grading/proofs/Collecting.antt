@@ -1,5 +1,6 @@
 -- Findings collected, one for each value of a map. Assumes nothing.
-use Rattle.std.proofs.Common.{◌≡◌, ℕ, ◌+◌, ◌-◌, ◌^◌, ◌≤◌, min, cond, List, [], ◌∷◌, ◌++◌, map, sym, refl, ap, ◌∙◌, append_assoc, append-nil, arith}
+use Rattle.std.proofs.Common.{◌≡◌, ℕ, ◌+◌, ◌-◌, ◌^◌, ◌≤◌, min, cond, List, [], ◌∷◌, map, sym, ap, ◌∙◌, arith}
+use Rattle.std.proofs.lemmas.Simd.{map-map}
 use Rattle.std.specs.BTreeMap.{BTreeMap}
 use Rattle.std.specs.BTreeMap.{values}
 use Rattle.std.specs.List.{range_with_len}
@@ -18,22 +19,10 @@ use Rattle.survey.specs.Books.{surveyed}
 use Rattle.survey.specs.Numbered.{Numbered, table}
 use Rattle.survey.proofs.Orders.{vals_stand}
 
--- a loop that pushes f of each item: one turn, and the end
-pub map_turn : {A B : Type 0} (f : A → B) (vs : List B) {ws : List B} {xs ys : List A} {x : A} {y : B} {all : List B} → ws ≡ vs ++ y ∷ [] → y ≡ f x → xs ≡ x ∷ ys → vs ++ map f xs ≡ all → ws ++ map f ys ≡ all
-map_turn f vs {ys = ys} {x = x} pushed is turn inv =
-    ap (λ us. us ++ map f ys) (pushed ∙ ap (λ y. vs ++ y ∷ []) is) ∙ append_assoc vs (f x ∷ []) (map f ys) ∙ ap (λ us. vs ++ map f us) (sym turn) ∙ inv
-
-pub map_end : {A B : Type 0} (f : A → B) (vs : List B) (xs : List A) {all : List B} → xs ≡ [] → vs ++ map f xs ≡ all → vs ≡ all
-map_end f vs xs none inv = sym (append-nil vs) ∙ ap (λ us. vs ++ map f us) (sym none) ∙ inv
-
-map_twice : {A B C : Type 0} (f : B → C) (g : A → B) (xs : List A) → map f (map g xs) ≡ map (λ x. f (g x)) xs
-map_twice f g [] = refl
-map_twice f g (x ∷ xs) = ap (λ ys. f (g x) ∷ ys) (map_twice f g xs)
-
 -- what stands, read by g and then by f
 read_twice : {X Y W : Type 0} (f : Y → W) (g : X → Y) (high : ℕ) (m : BTreeMap ℕ X) → Numbered high m → map f (standing (λ n. option_map g (table m n)) (range_with_len 1 high)) ≡ map (λ x. f (g x)) (values m)
 read_twice f g high m o =
-    ap (map f) (sym (map_standing g (table m) (range_with_len 1 high)) ∙ ap (map g) (vals_stand high m o)) ∙ map_twice f g (values m)
+    ap (map f) (sym (map_standing g (table m) (range_with_len 1 high)) ∙ ap (map g) (vals_stand high m o)) ∙ map-map f g (values m)
 
 module _ {Q S Element : Type 0} (q : Terms Element) (b : Book Q S) where
   pub legs_found : leg_findings q (surveyed b) ≡ map (λ l. leg_finding q (leg_record l)) (values b.legs)

@@ -1,4 +1,5 @@
-// What a book shows of all its legs and of all its circuits, in the order of their numbers.
+// What a book shows of all its legs and of all its circuits, in the order of their numbers. Each is one chain of the library's, so
+// a generic function over both would hold no more than that chain.
 ghost use Rattle.std.specs.Prelude.{◌≡◌, MatchResult};
 ghost use Rattle.records.specs.declared.refusal.Fault.TheVariants.{Memory};
 ghost use Rattle.plainbook.specs.Findings.{leg_findings, circuit_findings};

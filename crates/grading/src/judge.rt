@@ -43,10 +43,7 @@ pub fn check_grade<Q: Quantity, S: Standard>(book: &Book<Q, S>) -> Result<(), Re
     if book.legs.is_empty() {
         return Err(Reason::NoLeg.at(0));
     }
-    match loose_leg(book) {
-        None => Ok(()),
-        Some(leg) => Err(Reason::Loose.at(leg.into())),
-    }
+    Reason::Loose.refuse(loose_leg(book).map(|leg| u32::from(leg)))
 }
 
 pub fn grade<Q: Quantity, S: Standard>(heap: Global, book: &Book<Q, S>) -> Result<Grade, Fault>

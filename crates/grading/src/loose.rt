@@ -1,4 +1,4 @@
-// Legs that no circuit uses.
+// Legs that no circuit uses: legs outside, circuits and their legs inside, as the book's order of numbers has them.
 ghost use Rattle.std.specs.Prelude.{◌≡◌};
 ghost use Rattle.plainbook.specs.Surveys.{loose_leg};
 ghost use Rattle.survey.specs.Books.{surveyed};

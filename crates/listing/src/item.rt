@@ -39,7 +39,7 @@ impl Asked {
 }
 
 // Lists the rules that the finding misses at the class: a word for each, from an index on, as far as there are words. Says where the
-// list ends, which may be beyond them.
+// list ends, which may be beyond them; so the end is counted beside the words, and a struct of the two would hold no more than both.
 pub(crate) fn list_misses<S: Standard, F: Finding>(
     standard: &S,
     asked: Asked,

@@ -3,7 +3,7 @@ use Rattle.std.proofs.Common.{◌≡◌, not, ℕ, suc, ◌+◌, ◌-◌, ◌<�
 use Rattle.std.specs.Option.{option_map}
 use Rattle.std.specs.List.{slice_get, position, position_from}
 use Rattle.std.proofs.lemmas.Iterator.Adapters.{position_from-zero}
-use Rattle.std.proofs.lemmas.List.{at_drop_more, at_drop_all, map_push, map_more, length-drop, length-map, take_rest}
+use Rattle.std.proofs.lemmas.List.{at_drop_more, map_push, map_more, length-drop, take_rest}
 use Rattle.std.proofs.lemmas.Bool.{and_from, le-leb, both_ways}
 use Rattle.records.specs.declared.circuit.LegUse.{LegUse}
 use Rattle.records.specs.declared.number.Number.{Number}
@@ -14,10 +14,9 @@ use Rattle.records.specs.Layouts.{misplaced, circuit_layout, must}
 use Rattle.records.specs.Lowest.{Lowest}
 use Rattle.records.specs.Ranges.{is_leg_count}
 use Rattle.records.specs.Refusals.{refusal, first, unless}
-use Rattle.records.specs.Words.{bits, payload}
 use Rattle.records.proofs.Lowest.{From, passed, stopped, from_zero}
 use Rattle.records.proofs.Layouts.{next, no_more, refused_at}
-use Rattle.records.specs.Circuits.{CircuitRecord, circuit_read, circuit_refusals, circuit_unranged, head_ranged, use_word, Unranged, LeastUnranged, UseRecord, use_record, use_read}
+use Rattle.records.specs.Circuits.{circuit_refusals, circuit_unranged, head_ranged, Unranged, LeastUnranged, UseRecord, use_record, use_read}
 use Rattle.records.specs.Uses.{use_ranged, use_unranged}
 
 -- a use is read just where it is in range
@@ -36,7 +35,7 @@ module _ (ws : List ℕ) (i j : ℕ) (d : ℕ) (l : i < length ws) where
   pub in_range : use_ranged (get_or ws i d) ≡ true → use_unranged (suc j) (drop (i + 1) ws) ≡ use_unranged j (drop i ws)
   in_range e = sym (at_drop_more (use_unranged j) ws i d l ∙ ap (λ b. cond b (use_unranged (suc j) (drop (i + 1) ws)) (Some j)) e)
 
-  pub unranged : use_ranged (get_or ws i d) ≡ false → use_unranged j (drop i ws) ≡ Some j
+  unranged : use_ranged (get_or ws i d) ≡ false → use_unranged j (drop i ws) ≡ Some j
   unranged e = at_drop_more (use_unranged j) ws i d l ∙ ap (λ b. cond b (use_unranged (suc j) (drop (i + 1) ws)) (Some j)) e
 
 -- the first use that is out of range, by its place among the uses
@@ -52,9 +51,6 @@ unranged_first ws = from 0 ws ∙ ap (option_map (λ i. 2 + i)) (sym (position_f
     from i (w ∷ ws) =
         let next : suc (2 + i) ≡ 2 + (i + 1) = omega arith in
         chosen i (use_ranged w) _ _ (ap (λ j. use_unranged j ws) next ∙ from (i + 1) ws)
-
-pub none_left : (ws : List ℕ) (i j : ℕ) → length ws ≤ i → use_unranged j (drop i ws) ≡ None
-none_left ws i j l = at_drop_all (use_unranged j) ws i l
 
 -- the next of uses that are all in range
 pub still_ranged : (ws : List ℕ) (i j d : ℕ) → i < length ws → use_unranged j (drop i ws) ≡ None → (use_ranged (get_or ws i d) ≡ true) × (use_unranged (suc j) (drop (i + 1) ws) ≡ None)
@@ -94,9 +90,6 @@ module _ (ws : List ℕ) where
     pub circuit_taken : {A : Type 0} (answer : A) → head_ranged (get_or ws 0 0) ≡ true → use_unranged 2 (drop 2 ws) ≡ None → given answer ws ≡ Ok answer
     circuit_taken answer h u = tried answer _ _ laid (ap (λ b. cond b (use_unranged 2 (drop 2 ws)) (Some 0)) h ∙ u)
 
-    pub read_uses : use_unranged 2 (take (length ws - 2) (drop 2 ws)) ≡ use_unranged 2 (drop 2 ws)
-    read_uses = ap (use_unranged 2) (take_rest ws 2)
-
     pub three_up : 3 ≤ length ws
     three_up =
         let head = next 0 (must kinds.Circuit) (drop 1 circuit_layout) ws refl laid in
@@ -120,26 +113,9 @@ head_read None false n e = refl
 head_read (Some x) true n e = refl
 head_read (Some x) false n e = cc
 
--- one more use, written
-pub words_more : (ws ws' : List ℕ) (head due : ℕ) (us : List LegUse) (i w : ℕ) (u : LegUse) → i < length us →
-    ws ≡ head ∷ (due ∷ map use_word (map use_record (take i us))) → ws' ≡ ws ++ (w ∷ []) → w ≡ use_word (use_record u) → u ≡ get_or us i u →
-    ws' ≡ head ∷ (due ∷ map use_word (map use_record (take (i + 1) us)))
-words_more ws ws' head due us i w u l before pushed is at =
-    pushed
-    ∙ ap₂ (λ xs x. xs ++ (x ∷ [])) before (is ∙ ap (λ v. use_word (use_record v)) at)
-    ∙ ap (λ xs. head ∷ (due ∷ xs)) (sym (ap (map use_word) (map_more use_record us i u l) ∙ map_push use_word (map use_record (take i us)) (use_record (get_or us i u))))
-
 pub head_is : (x : Number 32) (b : Bool) (n : ℕ) → option_map (λ n. n.value) (Some x) ≡ cond b (Some n) None → x.value ≡ n
 head_is x true n e = cc
 head_is x false n e = let z : ◌≡◌ {A = ℕ} 0 1 = cc in absurd (omega arith)
-
-pub legs_counted : (ws : List ℕ) (n : ℕ) (us : List LegUse) → misplaced 0 circuit_layout ws ≡ None → n ≡ length us → map use_record us ≡ map use_read (take (length ws - 2) (drop 2 ws)) → is_leg_count n ≡ true
-legs_counted ws n us laid len read =
-    let same : n ≡ length (drop 2 ws) = len ∙ sym (length-map us use_record) ∙ ap length read ∙ length-map _ use_read ∙ ap length (take_rest ws 2) in
-    ap is_leg_count same ∙ counted ws laid
-
-pub circuit_same : (ws : List ℕ) (c : CircuitRecord) → c.number ≡ bits 20 8 (payload (get_or ws 0 0)) → c.due ≡ payload (get_or ws 1 0) → c.legs ≡ map use_read (take (length ws - 2) (drop 2 ws)) → circuit_read ws ≡ c
-circuit_same ws c n d u = let legs = u ∙ ap (map use_read) (take_rest ws 2) in sym (λ i. record { number = n i; due = d i; legs = legs i })
 
 -- ---- the index is the least
 abbrev Bad : List ℕ → ℕ → Type 0
@@ -162,19 +138,7 @@ least_unranged ws = go (head_ranged (get_or ws 0 0)) refl
         from_zero (Unranged ws) r (passed 0 (Unranged ws) r (λ h. both_ways (head_ranged (get_or ws 0 0)) h e) (passed 1 (λ k. Unranged ws (suc k)) r (λ h. h) (lowest_use 2 (drop 2 ws))))
     go false e = from_zero (Unranged ws) (Some 0) (stopped 0 (Unranged ws) e)
 
--- ---- words whose head was given
-head_none : (b : Bool) (u : Option ℕ) → cond b u (Some 0) ≡ None → u ≡ None
-head_none true u e = e
-head_none false u e = cc
-
-pub head_laid : (ws : List ℕ) → first (circuit_refusals ws) ≡ None → (misplaced 0 circuit_layout ws ≡ None) × (use_unranged 2 (drop 2 ws) ≡ None)
-head_laid ws e = go (misplaced 0 circuit_layout ws) (circuit_unranged ws) refl refl e
-  where
-    go : (m u : Option ℕ) → misplaced 0 circuit_layout ws ≡ m → circuit_unranged ws ≡ u → first (refusal Layout m ∷ refusal Range u ∷ []) ≡ None → (misplaced 0 circuit_layout ws ≡ None) × (use_unranged 2 (drop 2 ws) ≡ None)
-    go None None p q h = (p, head_none (head_ranged (get_or ws 0 0)) _ q)
-    go None (Some i) p q h = let z : ◌≡◌ {A = ℕ} 0 1 = cc in absurd (omega arith)
-    go (Some i) u p q h = let z : ◌≡◌ {A = ℕ} 0 1 = cc in absurd (omega arith)
-
+-- ---- what a result that was seen says
 pub seen_err : {B : Type 0} (o : Option Refusal) (answer : B) (e : Refusal) → Err e ≡ unless o answer → o ≡ Some e
 seen_err None answer e h = let z : ◌≡◌ {A = ℕ} 0 1 = cc in absurd (omega arith)
 seen_err (Some r) answer e h = cc

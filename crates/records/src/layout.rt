@@ -93,8 +93,5 @@ pub(crate) fn check(slots: &[Slot], words: &[u32]) -> Result<(), Refusal>
     requires { length slots.now ≤ 18 }
     ensures { result ≡ unless (refusal Layout (misplaced 0 slots.now words.now)) tt }
 {
-    match misplaced(slots, words) {
-        None => Ok(()),
-        Some(i) => Err(Reason::Layout.at(i as u32)),
-    }
+    Reason::Layout.refuse(misplaced(slots, words).map(|i| i as u32))
 }

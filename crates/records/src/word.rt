@@ -16,7 +16,8 @@ pub enum Kind {
     Use = 8,
 }
 
-// What a layout has at an index: a word of this kind, which may be left out or may not.
+// What a layout has at an index: a word of this kind, which may be left out or may not. Each kind can be either, so an enum of the two
+// would hold a kind in both.
 #[derive(Clone, Copy)]
 pub struct Slot {
     pub kind: Kind,

@@ -97,6 +97,19 @@ fn zero_bits(rt: HostRuntime) -> Result<(), Fail> {
     Ok(())
 }
 
+// A head says the circuit that is made of it.
+#[test]
+fn heads(rt: HostRuntime) -> Result<(), Fail> {
+    let words = [0x62000000, 0x73DCC500, 0x80000080, 0x88000002];
+    let head = Circuit::head(&words)?;
+    assert_eq!(rt; (head.number.value, head.due.bits), (32u16, 64_800_000u32));
+    assert_eq!(rt; head.uses.words, &words[2..]);
+    let circuit = Circuit::of(rt.alloc(), &head)?;
+    let again = circuit.encode(rt.alloc())?;
+    assert_eq!(rt; again.as_slice(), words.as_slice());
+    Ok(())
+}
+
 #[test]
 fn fields(rt: HostRuntime) -> Result<(), Fail> {
     let circuit = Circuit::decode(

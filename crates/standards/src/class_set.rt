@@ -1,4 +1,4 @@
-// A set of classes: five bits, class 1 lowest.
+// A set of classes: five bits, class 1 lowest, as a grade is told.
 ghost use Rattle.std.specs.Prelude.{◌^◌, ◌<◌};
 
 pub mod members;

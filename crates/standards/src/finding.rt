@@ -1,4 +1,7 @@
 // What a survey shows of a leg, of a circuit and of the whole, for a standard to judge.
+//
+// A misclosure or a closure that there is none of is 0 and no Option: tables and the order of findings compare sizes, and a missing
+// one would be read as 0 wherever it is asked.
 use records::leg::{Length, Readings, Running};
 
 #[derive(Clone, Copy)]

@@ -1,4 +1,7 @@
 // What a standard is: how many rules it has, what it accepts, and which classes a finding meets under each rule.
+//
+// Rules are numbers and no enum, since the word of a miss tells a rule by its number; and legs, circuits and the whole have each a
+// table of their own, so a finding and a rule go together into three methods that share nothing else.
 ghost use Rattle.std.specs.Prelude.{◌≡◌};
 ghost use Rattle.standards.specs.declared.class.Class.{Class};
 ghost use Rattle.standards.specs.ClassSets.{holds};

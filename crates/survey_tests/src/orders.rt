@@ -1,5 +1,5 @@
 // Refusals in their order: in each row two neighbours apply, and the first is the answer.
-use crate::said::{DONE, said, told};
+use crate::said::{DONE, said};
 use grading::judge::grade;
 use listing::list::misses;
 use quantities::angles::Angles;
@@ -95,14 +95,14 @@ fn chain_before_form(rt: HostRuntime) -> Result<(), Fail> {
 fn strikes_and_misses(rt: HostRuntime) -> Result<(), Fail> {
     let mut book = Book::open(rt.alloc(), Heights, LevelStandard);
     let mut none = [0u32; 0];
-    assert_eq!(rt; told(misses(&book, 0, &mut none)), (13, 0));
-    assert_eq!(rt; told(misses(&book, 1, &mut none)), (11, 0));
+    assert_eq!(rt; said(misses(&book, 0, &mut none)), (13, 0));
+    assert_eq!(rt; said(misses(&book, 1, &mut none)), (11, 0));
     // too long a sight difference for any class
     assert_eq!(rt;
         said(book.enter(&[0x10100402, VALUE, LENGTH, 0x4037D065])),
         DONE
     );
-    assert_eq!(rt; told(misses(&book, 1, &mut none)), (12, 1));
+    assert_eq!(rt; said(misses(&book, 1, &mut none)), (12, 1));
     assert_eq!(rt; said(grade(rt.alloc(), &book)), (12, 1));
     for circuit in [0x60300000u32, 0x60200000] {
         assert_eq!(rt;
@@ -111,13 +111,13 @@ fn strikes_and_misses(rt: HostRuntime) -> Result<(), Fail> {
         );
     }
     for (number, due) in [(0u32, (2u8, 0u32)), (129, (2, 0)), (2, (4, 0)), (1, (5, 2))] {
-        assert_eq!(rt; told(book.strike_leg(number)), due);
+        assert_eq!(rt; said(book.strike_leg(number)), due);
     }
     for (number, due) in [(0u32, (2u8, 0u32)), (33, (2, 0)), (1, (4, 0)), (2, DONE)] {
-        assert_eq!(rt; told(book.strike_circuit(number)), due);
+        assert_eq!(rt; said(book.strike_circuit(number)), due);
     }
-    assert_eq!(rt; told(book.strike_leg(1)), (5, 3));
+    assert_eq!(rt; said(book.strike_leg(1)), (5, 3));
     // the leg's sight difference, and the circuit's single running
-    assert_eq!(rt; told(misses(&book, 1, &mut none)), (14, 2));
+    assert_eq!(rt; said(misses(&book, 1, &mut none)), (14, 2));
     Ok(())
 }

@@ -35,6 +35,7 @@ impl Quantity for Heights {
         due.bits == DUE
     }
 
+    // a match, here and below: by `map_or` the proof did not close without a lemma that is longer than the two arms
     fn contribution(&self, value: Payload, back: Option<Payload>) -> Height {
         let forth = i64::from(value.signed());
         match back {

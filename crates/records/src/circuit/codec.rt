@@ -21,7 +21,7 @@ fn head_number(word: u32) -> Option<CircuitNumber>
     if payload.bits % (1 << 20) != 0 {
         return None;
     }
-    CircuitNumber::new(payload.high().into())
+    CircuitNumber::new(payload.field::<20, 8>())
 }
 
 impl Circuit {

@@ -16,7 +16,7 @@ use std::alloc::{AllocError, Global};
 const FIRST_USE: usize = 2;
 
 impl LegUse {
-    // What a word says, where its number is in range and its spare bits are zero.
+    // What a word says, where its number is in range and its spare bits are zero; an Option, since the word's place is not known here.
     pub fn read(word: u32) -> Option<LegUse>
         ensures { option_map use_record result ≡ (if use_ranged word then Some (use_read word) else None) }
     {
@@ -62,10 +62,7 @@ pub(super) fn check_uses(words: &[u32]) -> Result<(), Refusal>
     requires { length words.now ≤ 16 }
     ensures { result ≡ unless (refusal Range (use_unranged 2 words.now)) tt }
 {
-    match first_unranged(words) {
-        None => Ok(()),
-        Some(i) => Err(Reason::Range.at((FIRST_USE + i) as u32)),
-    }
+    Reason::Range.refuse(first_unranged(words).map(|i| (FIRST_USE + i) as u32))
 }
 
 impl<'a> Uses<'a> {

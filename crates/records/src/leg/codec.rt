@@ -25,15 +25,16 @@ impl Leg {
         };
         let head = Payload::of_word(*head);
         let out_of_range = Reason::Range.at(0);
-        let number = LegNumber::new(head.high().into()).ok_or(out_of_range)?;
-        let start = Node::new(head.middle()).ok_or(out_of_range)?;
-        let end = Node::new(head.low()).ok_or(out_of_range)?;
+        let number = LegNumber::new(head.field::<20, 8>()).ok_or(out_of_range)?;
+        let start = Node::new(head.field::<10, 10>()).ok_or(out_of_range)?;
+        let end = Node::new(head.field::<0, 10>()).ok_or(out_of_range)?;
         if start == end {
             return Err(out_of_range);
         }
         let metres = Payload::of_word(*length).bits;
         let readings = Payload::of_word(*readings);
-        let (a, b, c) = (readings.high(), readings.middle(), readings.low());
+        let a = readings.field::<20, 8>() as u8;
+        let (b, c) = (readings.field::<10, 10>(), readings.field::<0, 10>());
         Ok(Leg {
             number,
             start,

@@ -1,4 +1,4 @@
-// Numbers taken in where they are in range.
+// Numbers taken in where they are in range: an Option, as std's `NonZero` has, since each caller tells its own place.
 ghost use Rattle.std.specs.Prelude.{◌≡◌};
 ghost use Rattle.std.specs.Option.{option_map};
 ghost use Rattle.records.specs.Ranges.{between, passing};

@@ -1,6 +1,6 @@
 // Each reason's number and part, and refusals made.
 ghost use Rattle.std.specs.Prelude.{◌≡◌};
-ghost use Rattle.records.specs.Refusals.{row};
+ghost use Rattle.records.specs.Refusals.{row, refusal, unless};
 
 use super::{Part, Reason, Refusal};
 
@@ -19,6 +19,16 @@ impl Reason {
             Reason::Measure => Part::Quantity,
             Reason::Observation | Reason::Form => Part::Standard,
             _ => Part::Book,
+        }
+    }
+
+    // Refuses for this reason, if there is a place to tell.
+    pub fn refuse(self, place: Option<u32>) -> Result<(), Refusal>
+        ensures { result ≡ unless (refusal self place) tt }
+    {
+        match place {
+            None => Ok(()),
+            Some(place) => Err(self.at(place)),
         }
     }
 

@@ -1,4 +1,4 @@
-// Errors that `?` turns into a fault.
+// Errors that `?` turns into a fault; written by hand, since clauses cite `from_gives`, which no derive writes.
 ghost use Rattle.std.specs.Prelude.{◌≡◌};
 ghost use Rattle.records.specs.declared.refusal.Fault.TheVariants.{Refused, Memory};
 

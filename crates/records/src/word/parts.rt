@@ -1,5 +1,5 @@
 // A word taken apart and put together, and a list of words held against a layout.
-ghost use Rattle.std.specs.Prelude.{◌≡◌, ◌==◌, ◌+◌, ◌*◌, ◌^◌, ◌<◌};
+ghost use Rattle.std.specs.Prelude.{◌≡◌, ◌==◌, ◌≤◌, ◌+◌, ◌*◌, ◌^◌, ◌<◌};
 ghost use Rattle.records.specs.Words.{kind, payload, word, bits, signed, kind_number};
 
 use super::{Kind, Payload};
@@ -42,25 +42,13 @@ impl Payload {
         kind as u32 * (1 << 28) + self.bits
     }
 
-    // Bits 27 to 20.
-    pub(crate) fn high(self) -> u8
-        ensures { result ≡ bits 20 8 self.bits }
+    // As many bits as the width, from the bit `LOW` up.
+    pub(crate) fn field<const LOW: u32, const WIDTH: u32>(self) -> u16
+        requires low { LOW ≤ 27 }
+        requires width { WIDTH ≤ 10 }
+        ensures { result ≡ bits LOW WIDTH self.bits }
     {
-        ((self.bits >> 20) % 256) as u8
-    }
-
-    // Bits 19 to 10.
-    pub(crate) fn middle(self) -> u16
-        ensures { result ≡ bits 10 10 self.bits }
-    {
-        ((self.bits >> 10) % 1024) as u16
-    }
-
-    // Bits 9 to 0.
-    pub(crate) fn low(self) -> u16
-        ensures { result ≡ bits 0 10 self.bits }
-    {
-        (self.bits % 1024) as u16
+        ((self.bits >> LOW) % (1 << WIDTH)) as u16
     }
 
     // The payload as two's complement on 28 bits.

@@ -44,9 +44,8 @@ impl<Q: Quantity + Drop, S: Standard + Drop> Book<Q, S> {
         if !self.legs.contains_key(&number) {
             return Err(Reason::Absent.at(0));
         }
-        if let Some(circuit) = self.user_of(number) {
-            return Err(Reason::InUse.at(circuit.into()));
-        }
+        let user = self.user_of(number);
+        Reason::InUse.refuse(user.map(|circuit| u32::from(circuit)))?;
         let _ = self.legs.remove(&number);
         Ok(())
     }
