@@ -64,7 +64,7 @@ impl Circuit {
         ensures words { IfOk result (λ v. v.items ≡ circuit_words (circuit_record self.now)) }
         ensures law { CircuitsReadBack }
     {
-        let head = Payload::packed(self.number.value, 0, 0);
+        let head = Payload::packed(self.number.value as u8, 0, 0);
         let first = [head.under(Kind::Circuit), self.due.under(Kind::Due)];
         let uses = self.legs.iter().map(|leg_use| leg_use.word());
         first.into_iter().chain(uses).collect(heap)

@@ -54,11 +54,11 @@ impl Leg {
         let length = Payload {
             bits: self.length.metres,
         };
-        let head = Payload::packed(self.number.value, self.start.value, self.end.value);
+        let head = Payload::packed(self.number.value as u8, self.start.value, self.end.value);
         let head = head.under(Kind::Leg);
         let value = self.value.under(Kind::Value);
         let length = length.under(Kind::Length);
-        let readings = Payload::packed(a.into(), b, c).under(Kind::Readings);
+        let readings = Payload::packed(a, b, c).under(Kind::Readings);
         match self.back {
             None => [head, value, length, readings].to_vec(heap),
             Some(back) => [head, value, length, readings, back.under(Kind::Back)].to_vec(heap),

@@ -24,8 +24,7 @@ impl Payload {
     }
 
     // Three fields: bits 27 to 20, 19 to 10 and 9 to 0.
-    pub(crate) fn packed(high: u16, middle: u16, low: u16) -> Payload
-        requires high_fits { high < 2 ^ 8 }
+    pub(crate) fn packed(high: u8, middle: u16, low: u16) -> Payload
         requires middle_fits { middle < 2 ^ 10 }
         requires low_fits { low < 2 ^ 10 }
         ensures { result.bits ≡ high * 2 ^ 20 + middle * 2 ^ 10 + low }
