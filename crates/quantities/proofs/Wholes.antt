@@ -3,7 +3,7 @@ use Rattle.std.proofs.Common.{◌≡◌, ℕ, zero, suc, ◌+◌, ◌-◌, ◌*�
 use native.Mathlib.Nat.{add-mod, add-mul-mod_self_right, zero-mod, sub-zero, mod_self}
 use borrow.Author.Differences.{up, down, sum_is_lem, ints}
 use Rattle.std.proofs.lemmas.Bool.{cases_lt, cond-true, cond-false, le-leb, lt-leb}
-use Rattle.quantities.specs.Residues.{residue_plus, residue_opposite, least_residue, signed_form}
+use Rattle.quantities.specs.Residues.{residue_plus, residue_opposite, residue_size, least_residue, signed_form, SignedRange}
 use Rattle.quantities.specs.ResidueLaws.{opposite_cases}
 
 -- numbers that differ by multiples of m have one residue
@@ -78,6 +78,23 @@ module _ (m : ℕ) (positive : 0 < m) where
         | inr upto ↦ inl (upto, cond-true (leb (2 * a) m) (pos a) (pos a -ℤ pos m) (le-leb (2 * a) m upto))
       ]
 
+  pub signed_size : (a : ℕ) → a < m → residue_size m a ≡ nat_abs (signed_form m a)
+  signed_size a below =
+      elim (signed_cases a below) [
+        | inl h ↦ rw h.1 (omega (arith, h.0))
+        | inr h ↦ rw h.1 (omega (arith, h.0))
+      ]
+
+  pub signed_least : (a : ℕ) → a < m → least_residue m (signed_form m a) ≡ a
+  signed_least a below =
+      elim (signed_cases a below) [
+        | inl h ↦ ap (least_residue m) h.1 ∙ mod-eq_of_lt below
+        | inr h ↦
+            ap (least_residue m) h.1
+            ∙ opposite_of (suc (m - suc a)) (omega arith) (omega (arith, h.0))
+            ∙ omega arith
+      ]
+
   -- a whole number below half of m is the signed form of its residue
   pub signed_near : (z : ℤ) → 2 * nat_abs z < m → signed_form m (least_residue m z) ≡ z
   signed_near (pos n) near =
@@ -91,4 +108,11 @@ module _ (m : ℕ) (positive : 0 < m) where
       ∙ elim (signed_cases (m - suc n) left) [
         | inl h ↦ absurd (omega (arith, h.0))
         | inr h ↦ h.1 ∙ ap negsuc (omega arith)
+      ]
+
+  pub signed_range : (a : ℕ) → a < m → SignedRange m (signed_form m a)
+  signed_range a below =
+      elim (signed_cases a below) [
+        | inl h ↦ rw h.1 (omega (arith, ints, h.0), omega (arith, ints, h.0))
+        | inr h ↦ rw h.1 (omega (arith, ints, h.0), omega (arith, ints, h.0))
       ]
