@@ -13,7 +13,7 @@ import subprocess
 import sys
 
 ALIKE = 0.85
-SHORTEST = 12
+SHORTEST = 20
 HANDED_ON = {"self", "heap", "rt", "f", "standard", "book", "quantity"}
 
 
