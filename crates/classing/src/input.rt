@@ -63,6 +63,7 @@ fn answer_lines<R: Read + Drop>(
     let mut input = BufReader::new(rt.alloc(), input)?;
     let mut bytes = Vec::new(rt.alloc());
     let mut desk = Desk::new(rt.alloc());
+    // a count that no input reaches, since every loop is proved to end
     for line in 0..u64::MAX {
         bytes.clear();
         match input.read_until(b'\n', &mut bytes) {

@@ -42,6 +42,7 @@ pub(crate) struct Listing {
 }
 
 impl Named {
+    // Here a word's numbers become what they stand for; an Option, since a word that is no miss has nothing more to say.
     fn read(word: u32) -> Option<Named> {
         let class = Class::try_from((word >> 24 & 0xf) as u8).ok()?;
         let rule = ((word >> 12 & 0xff) as u8).checked_sub(1)?;

@@ -116,7 +116,8 @@ pub(crate) struct Miss {
     asked: Asked,
 }
 
-// The root that a limit sets over a length, its whole part.
+// The root that a limit sets over a length, its whole part. It is a figure to be told: the library judges by squares, and has no use
+// for the product in public.
 fn root(factor: u8, limit: u16, metres: u32) -> u64 {
     let limit = u128::from(limit);
     (u128::from(factor) * (limit * limit) * u128::from(metres)).isqrt() as u64

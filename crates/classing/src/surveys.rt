@@ -29,6 +29,7 @@ impl Survey {
         }
     }
 
+    // a text for a pair, which no Display has
     pub(crate) fn class_name(self, class: Class) -> &'static str {
         match (self, class) {
             (Survey::Level, Class::First) => "first-order, class I",

@@ -16,7 +16,8 @@ const READINGS: u32 = 0x4037D028;
 
 const BACK: u32 = 0x5FFFD8F0;
 
-// The refusal that is due, or the words read and written again.
+// The refusal that is due, or the words read and written again. That of circuits allocates, and so has a fault to tell apart; what is
+// left alike is the comparison.
 fn decodes(rt: &(impl Abort + AllocGlobal), words: &[u32], due: Option<Said>) -> Result<(), Fail> {
     match Leg::decode(words) {
         Ok(leg) => {
@@ -51,7 +52,7 @@ fn layouts(rt: HostRuntime) -> Result<(), Fail> {
     for (words, due) in rows {
         decodes(&rt, words, due)?;
     }
-    // kinds 0 and 15 at each index
+    // kinds 0 and 15 at each index, which is the place that is due
     for i in 0..5usize {
         for other in [0x00000001u32, 0xF0000001] {
             let mut words = whole;
