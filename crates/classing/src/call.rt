@@ -18,7 +18,7 @@ pub(crate) enum Call {
     Ask(Ask),
 }
 
-// A call on the book that is open.
+// A call on the book that is open, before its kind is known; and so not the library's, which has a quantity and a standard.
 #[derive(Drop)]
 pub(crate) enum Ask {
     // puts a new, empty book in its place

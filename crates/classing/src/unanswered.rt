@@ -1,4 +1,4 @@
-// Why a line has no answer.
+// Why a line has no answer. The conversions are by hand, since two of them drop what they are given, which no derive does.
 use crate::forms::Form;
 use records::refusal::{Fault, Refusal};
 use std::alloc::{AllocError, AllocFailed};

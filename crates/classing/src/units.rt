@@ -9,6 +9,7 @@ struct Decimal {
     places: usize,
 }
 
+// Two makers and no unit as a parameter, which would have to be shown not to be 0.
 fn hundredths(amount: u128) -> Decimal {
     Decimal {
         whole: amount / 100,

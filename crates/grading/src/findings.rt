@@ -102,7 +102,7 @@ pub fn whole_finding<Q: Quantity, S>(book: &Book<Q, S>) -> WholeFinding
     WholeFinding { circuits, closures }
 }
 
-// What the leg with a number shows, if it stands.
+// What the leg with a number shows, if it stands; in the words of legs, as the next in those of circuits.
 pub fn leg_finding<Q: Quantity, S>(book: &Book<Q, S>, number: u16) -> Option<LegFinding>
     ensures { result ≡ leg_item (Q.Quantity.meaning book.now.quantity) (surveyed book.now) number }
 {

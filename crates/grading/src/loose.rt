@@ -1,4 +1,5 @@
-// Legs that no circuit uses: legs outside, circuits and their legs inside, as the book's order of numbers has them.
+// Legs that no circuit uses: legs outside, circuits and their legs inside, and a labelled `continue` where a use is found, as the form
+// of this search is laid down.
 ghost use Rattle.std.specs.Prelude.{◌≡◌};
 ghost use Rattle.plainbook.specs.Surveys.{loose_leg};
 ghost use Rattle.survey.specs.Books.{surveyed};

@@ -45,7 +45,8 @@ fn list_standing<Q: Quantity, S: Standard, T: Standing>(
     at
 }
 
-// Lists all misses, as far as there are words, and says how many they are.
+// Lists all misses, as far as there are words, and says how many they are. The class is asked of the book, and the words are the
+// caller's, so the two are no type.
 fn list_all<Q: Quantity, S: Standard>(book: &Book<Q, S>, class: Class, words: &mut [u32]) -> usize
     ensures count { result ≡ length (survey_misses (Q.Quantity.meaning book.now.quantity) (S.Standard.meaning book.now.standard) (surveyed book.now) class) }
     ensures after { words.new ≡ put 0 (survey_misses (Q.Quantity.meaning book.now.quantity) (S.Standard.meaning book.now.standard) (surveyed book.now) class) words.old }

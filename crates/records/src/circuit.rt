@@ -9,11 +9,11 @@ use crate::word::Payload;
 pub mod codec;
 mod named;
 
-// Which way a leg is run.
+// Which way a leg is run, by the bit of a use.
 #[derive(Clone, Copy, PartialEq, Eq, Debug)]
 pub enum Sense {
-    Along,
-    Against,
+    Along = 0,
+    Against = 1,
 }
 
 // A leg as a circuit runs it.

@@ -66,7 +66,8 @@ pub(crate) const CIRCUIT: [Slot; 18] = [
     MORE,
 ];
 
-// The least index at which a word is absent, surplus or of another kind than the layout's.
+// The least index at which a word is absent, surplus or of another kind than the layout's. A loop with its index, since a slot is held
+// against a word that may not be there.
 pub fn misplaced(slots: &[Slot], words: &[u32]) -> Option<usize>
     ensures value { result ≡ misplaced 0 slots.now words.now }
     ensures lowest { Lowest (Broken slots.now words.now) result }

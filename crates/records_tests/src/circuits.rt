@@ -1,6 +1,6 @@
 // Circuits: three to eighteen words in their order, each number on its limits, and each bit that is to be zero.
 use crate::refusals::{Said, layout, range, said};
-use records::circuit::{Circuit, Sense};
+use records::circuit::{Circuit, LegUse, Sense};
 use records::refusal::Fault;
 use std::process::Abort;
 use std::test::Fail;
@@ -118,11 +118,8 @@ fn fields(rt: HostRuntime) -> Result<(), Fail> {
     )?;
     assert_eq!(rt; circuit.number.value, 32);
     assert_eq!(rt; circuit.due.bits, 64_800_000);
-    let mut named = Vec::new(rt.alloc());
-    for leg_use in circuit.legs.iter() {
-        let against = matches!(leg_use.sense, Sense::Against);
-        named.push((leg_use.leg.value, against))?;
-    }
+    let named = |leg_use: &LegUse| (leg_use.leg.value, leg_use.sense == Sense::Against);
+    let named: Vec<(u16, bool)> = circuit.legs.iter().map(named).collect(rt.alloc())?;
     assert_eq!(rt;
         named.as_slice(),
         [(128u16, false), (2u16, true)].as_slice()

@@ -13,7 +13,7 @@ pub struct LegFinding {
     pub readings: Readings,
 }
 
-// Whether a circuit ends where it began, and how many legs it has.
+// Whether a circuit ends where it began, and how many legs it has: two facts, of which neither depends on the other.
 #[derive(Clone, Copy)]
 pub struct Form {
     pub closed: bool,

@@ -10,7 +10,8 @@ use crate::class_set::ClassSet;
 use crate::finding::{CircuitFinding, LegFinding, WholeFinding};
 use crate::standard::Standard;
 
-// A kind of finding, and the part of a standard that judges it.
+// A kind of finding, and the part of a standard that judges it. Each impl passes on to the methods of its own table, as a standard has one
+// for legs, one for circuits and one for the whole.
 pub trait Finding: Sized {
     ghost kind: { Kind Self };
 

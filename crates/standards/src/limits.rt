@@ -42,6 +42,7 @@ pub fn square_at_most(size: u64, factor: u8, limits: [u16; 5], metres: u32) -> C
     ClassSet::of(limits.map(|limit| square <= allowed(factor, limit, metres)))
 }
 
+// The factor and the metres go together here and in the function above alone, so they are no type.
 fn allowed(factor: u8, limit: u16, metres: u32) -> u128
     ensures { result ≡ factor * (limit * limit) * metres }
 {

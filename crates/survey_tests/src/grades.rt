@@ -29,19 +29,19 @@ fn filled<Q: Quantity + Drop, S: Standard + Drop>(
     Ok(())
 }
 
-// The set of classes met, and what misses leaves at a class in three words that hold 7.
-fn judged<Q: Quantity, S: Standard>(
+// The set of classes met, and what misses leaves at a class in so many words that hold 7.
+fn judged<Q: Quantity, S: Standard, const N: usize>(
     rt: &(impl Abort + AllocGlobal),
     book: &Book<Q, S>,
     set: u8,
     class: u8,
-    due: [u32; 3],
+    due: [u32; N],
 ) -> Result<(), Fail> {
     match grade(rt.alloc(), book) {
         Ok(graded) => assert_eq!(rt; graded.met.bits, set),
         Err(_) => return Err(Fail::new("no grade")),
     }
-    let mut written = [7u32, 7, 7];
+    let mut written = [7u32; N];
     assert!(rt; misses(book, class, &mut written).is_ok());
     assert_eq!(rt; written, due);
     Ok(())
@@ -55,19 +55,13 @@ fn alone(
     due: [u32; 2],
 ) -> Result<(), Fail> {
     let mut book = Book::open(rt.alloc(), Heights, LevelStandard);
-    assert_eq!(rt; said(book.enter(words)), DONE);
-    assert_eq!(rt;
-        said(book.join(rt.alloc(), &[0x60100000, 0x70000000, 0x80000001])),
-        DONE
-    );
-    match grade(rt.alloc(), &book) {
-        Ok(graded) => assert_eq!(rt; graded.met.bits, set),
-        Err(_) => assert_eq!(rt; 0u8, 1),
-    }
-    let mut written = [7u32, 7];
-    assert!(rt; misses(&book, 1, &mut written).is_ok());
-    assert_eq!(rt; written, due);
-    Ok(())
+    filled(
+        rt,
+        &mut book,
+        &[words],
+        &[&[0x60100000, 0x70000000, 0x80000001]],
+    )?;
+    judged(rt, &book, set, 1, due)
 }
 
 #[test]
@@ -125,9 +119,7 @@ fn legs_on_the_limits(rt: HostRuntime) -> Result<(), Fail> {
     ];
     for (rest, set, class, due) in rows {
         let mut leg = [0x10100402u32, 0x20002710].to_vec(rt.alloc())?;
-        for word in rest {
-            leg.push(*word)?;
-        }
+        leg.extend_from_slice(rest)?;
         let mut book = Book::open(rt.alloc(), Heights, LevelStandard);
         filled(
             &rt,

@@ -36,11 +36,7 @@ impl LegUse {
     pub(super) fn word(self) -> u32
         ensures { result ≡ use_word (use_record self) }
     {
-        let turned = match self.sense {
-            Sense::Along => 0,
-            Sense::Against => 1 << 27,
-        };
-        let bits = turned + u32::from(self.leg.value);
+        let bits = ((self.sense as u32) << 27) + u32::from(self.leg.value);
         Payload { bits }.under(Kind::Use)
     }
 }
@@ -66,6 +62,7 @@ pub(super) fn check_uses(words: &[u32]) -> Result<(), Refusal>
 }
 
 impl<'a> Uses<'a> {
+    // Each word gives a leg: a `filter_map` would pass over one that did not, unseen.
     pub(super) fn legs(&self, heap: Global) -> Result<Vec<LegUse>, AllocError>
         ensures { IfOk result (λ v. map use_record v.items ≡ map use_read self.now.words.now) }
     {

@@ -15,7 +15,7 @@ use standards::standard::Standard;
 use std::alloc::Global;
 use std::collections::BTreeMap;
 
-// A number in the range of its kind.
+// A number in the range of its kind. A match, since an `and_then` to a type with a constant gets no proof.
 fn numbered<const GREATEST: u16>(number: u32) -> Result<Number<GREATEST>, Refusal>
     ensures { seen (λ n. n.value) result ≡ unless (refused_if Range 0 (not (between 1 GREATEST number))) number }
 {

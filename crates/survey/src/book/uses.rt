@@ -6,7 +6,8 @@ ghost use Rattle.survey.specs.Books.{surveyed};
 use super::Book;
 
 impl<Q, S> Book<Q, S> {
-    // The lowest circuit that uses the leg.
+    // The lowest circuit that uses the leg. Two loops and no `find`, which would want a function of its own for what a circuit names and
+    // a `map` for the number beside it.
     pub fn user_of(&self, leg: u16) -> Option<u16>
         ensures { result ≡ user (surveyed self.now) leg }
     {
