@@ -143,6 +143,7 @@ impl Rule {
         }
     }
 
+    // Each way to ask takes the class and what was found, and the class is no part of that.
     fn at_least(self, class: Class, found: u8) -> Miss {
         self.missed(u64::from(found), Asked::AtLeast(self.limit(class)))
     }

@@ -1,4 +1,5 @@
-// What every quantity does: it accepts payloads, and makes elements of them that can be summed.
+// What every quantity does: it accepts payloads, and makes elements of them that can be summed. A value and its back value are taken
+// bare, as fields of a leg; a type of the two would be a third of a leg.
 ghost use Rattle.std.specs.Prelude.{◌≡◌};
 ghost use Rattle.std.specs.Option.{option_map};
 ghost use Rattle.quantities.specs.Terms.{Terms};
