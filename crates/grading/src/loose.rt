@@ -1,5 +1,5 @@
-// Legs that no circuit uses: legs outside, circuits and their legs inside, and a labelled `continue` where a use is found, as the form
-// of this search is laid down.
+// Legs that no circuit uses: legs outside, circuits and their legs inside. A use goes on to the next leg by a labelled `continue`; the
+// first leg that has none is the answer.
 ghost use Rattle.std.specs.Prelude.{◌≡◌};
 ghost use Rattle.plainbook.specs.Surveys.{loose_leg};
 ghost use Rattle.survey.specs.Books.{surveyed};
