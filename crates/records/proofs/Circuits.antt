@@ -35,7 +35,7 @@ module _ (ws : List ℕ) (i j : ℕ) (d : ℕ) (l : i < length ws) where
   pub in_range : use_ranged (get_or ws i d) ≡ true → use_unranged (suc j) (drop (i + 1) ws) ≡ use_unranged j (drop i ws)
   in_range e = sym (at_drop_more (use_unranged j) ws i d l ∙ ap (λ b. cond b (use_unranged (suc j) (drop (i + 1) ws)) (Some j)) e)
 
-  unranged : use_ranged (get_or ws i d) ≡ false → use_unranged j (drop i ws) ≡ Some j
+  pub unranged : use_ranged (get_or ws i d) ≡ false → use_unranged j (drop i ws) ≡ Some j
   unranged e = at_drop_more (use_unranged j) ws i d l ∙ ap (λ b. cond b (use_unranged (suc j) (drop (i + 1) ws)) (Some j)) e
 
 -- the first use that is out of range, by its place among the uses
@@ -137,6 +137,19 @@ least_unranged ws = go (head_ranged (get_or ws 0 0)) refl
         let r = use_unranged 2 (drop 2 ws) in
         from_zero (Unranged ws) r (passed 0 (Unranged ws) r (λ h. both_ways (head_ranged (get_or ws 0 0)) h e) (passed 1 (λ k. Unranged ws (suc k)) r (λ h. h) (lowest_use 2 (drop 2 ws))))
     go false e = from_zero (Unranged ws) (Some 0) (stopped 0 (Unranged ws) e)
+
+-- ---- words whose head was given
+head_none : (b : Bool) (u : Option ℕ) → cond b u (Some 0) ≡ None → u ≡ None
+head_none true u e = e
+head_none false u e = cc
+
+pub head_laid : (ws : List ℕ) → first (circuit_refusals ws) ≡ None → (misplaced 0 circuit_layout ws ≡ None) × (use_unranged 2 (drop 2 ws) ≡ None)
+head_laid ws e = go (misplaced 0 circuit_layout ws) (circuit_unranged ws) refl refl e
+  where
+    go : (m u : Option ℕ) → misplaced 0 circuit_layout ws ≡ m → circuit_unranged ws ≡ u → first (refusal Layout m ∷ refusal Range u ∷ []) ≡ None → (misplaced 0 circuit_layout ws ≡ None) × (use_unranged 2 (drop 2 ws) ≡ None)
+    go None None p q h = (p, head_none (head_ranged (get_or ws 0 0)) _ q)
+    go None (Some i) p q h = let z : ◌≡◌ {A = ℕ} 0 1 = cc in absurd (omega arith)
+    go (Some i) u p q h = let z : ◌≡◌ {A = ℕ} 0 1 = cc in absurd (omega arith)
 
 -- ---- what a result that was seen says
 pub seen_err : {B : Type 0} (o : Option Refusal) (answer : B) (e : Refusal) → Err e ≡ unless o answer → o ≡ Some e

@@ -31,11 +31,17 @@ pub struct Uses<'a> {
     ghost few: { is_leg_count (length words.now) ≡ true },
 }
 
-// What a circuit's words say, before there is room for its legs.
+// What a circuit's first two words say.
 #[derive(Clone, Copy)]
-pub struct Head<'a> {
+pub struct Head {
     pub number: CircuitNumber,
     pub due: Payload,
+}
+
+// What all of a circuit's words say, before there is room for its legs.
+#[derive(Clone, Copy)]
+pub struct View<'a> {
+    pub head: Head,
     pub uses: Uses<'a>,
 }
 

@@ -1,7 +1,7 @@
 // Circuits: three to eighteen words in their order, each number on its limits, and each bit that is to be zero.
 use crate::refusals::{Said, layout, range, said};
-use records::circuit::{Circuit, LegUse, Sense};
-use records::refusal::Fault;
+use records::circuit::{Circuit, Head, LegUse, Sense};
+use records::refusal::{Fault, Refusal};
 use std::process::Abort;
 use std::test::Fail;
 
@@ -97,14 +97,25 @@ fn zero_bits(rt: HostRuntime) -> Result<(), Fail> {
     Ok(())
 }
 
-// A head says the circuit that is made of it.
+// The head of a circuit whose words are gone.
+fn kept_head() -> Result<Head, Refusal> {
+    let words = [0x62000000, 0x73DCC500, 0x80000080, 0x88000002];
+    Circuit::head(&words)
+}
+
+// A head is kept without the words, and a view says the circuit that is made of it.
 #[test]
 fn heads(rt: HostRuntime) -> Result<(), Fail> {
-    let words = [0x62000000, 0x73DCC500, 0x80000080, 0x88000002];
-    let head = Circuit::head(&words)?;
+    let head = kept_head()?;
     assert_eq!(rt; (head.number.value, head.due.bits), (32u16, 64_800_000u32));
-    assert_eq!(rt; head.uses.words, &words[2..]);
-    let circuit = Circuit::of(rt.alloc(), &head)?;
+    let words = [0x62000000, 0x73DCC500, 0x80000080, 0x88000002];
+    let view = Circuit::view(&words)?;
+    assert_eq!(rt;
+        (view.head.number.value, view.head.due.bits),
+        (32u16, 64_800_000u32)
+    );
+    assert_eq!(rt; view.uses.words, &words[2..]);
+    let circuit = Circuit::of(rt.alloc(), &view)?;
     let again = circuit.encode(rt.alloc())?;
     assert_eq!(rt; again.as_slice(), words.as_slice());
     Ok(())

@@ -6,7 +6,7 @@ ghost use Rattle.records.specs.Refusals.{Gives, seen};
 ghost use Rattle.records.specs.Words.{bits, payload};
 
 use super::named::check_uses;
-use super::{Circuit, Head, Uses};
+use super::{Circuit, Head, Uses, View};
 use crate::layout;
 use crate::number::CircuitNumber;
 use crate::refusal::{Fault, Reason, Refusal};
@@ -26,9 +26,9 @@ fn head_number(word: u32) -> Option<CircuitNumber>
 
 impl Circuit {
     // What a circuit's words say, where they are all laid out and in range. Nothing is allocated.
-    pub fn head(words: &[u32]) -> Result<Head<'_>, Refusal>
-        ensures head { seen head_record result ≡ head_decoded words.now }
-        ensures uses { IfOk result (λ h. h.uses.words.now ≡ drop 2 words.now) }
+    pub fn view(words: &[u32]) -> Result<View<'_>, Refusal>
+        ensures head { seen (λ v. head_record v.head) result ≡ head_decoded words.now }
+        ensures uses { IfOk result (λ v. v.uses.words.now ≡ drop 2 words.now) }
     {
         layout::check(&layout::CIRCUIT, words)?;
         let [head, due, uses @ ..] = words else {
@@ -36,19 +36,26 @@ impl Circuit {
         };
         let number = head_number(*head).ok_or(Reason::Range.at(0))?;
         check_uses(uses)?;
-        Ok(Head {
-            number,
-            due: Payload::of_word(*due),
+        let due = Payload::of_word(*due);
+        Ok(View {
+            head: Head { number, due },
             uses: Uses { words: uses },
         })
     }
 
-    // The circuit that a head says.
-    pub fn of(heap: Global, head: &Head<'_>) -> Result<Circuit, AllocError>
-        ensures { IfOk result (λ c. circuit_record c ≡ record { number = head.now.number.value; due = head.now.due.bits; legs = map use_read head.now.uses.words.now }) }
+    // The head of a circuit whose words are all laid out and in range; it is kept without them.
+    pub fn head(words: &[u32]) -> Result<Head, Refusal>
+        ensures { seen head_record result ≡ head_decoded words.now }
     {
-        let Head { number, due, uses } = *head;
-        let legs = uses.legs(heap)?;
+        Ok(Circuit::view(words)?.head)
+    }
+
+    // The circuit that a view says.
+    pub fn of(heap: Global, view: &View<'_>) -> Result<Circuit, AllocError>
+        ensures { IfOk result (λ c. circuit_record c ≡ record { number = view.now.head.number.value; due = view.now.head.due.bits; legs = map use_read view.now.uses.words.now }) }
+    {
+        let Head { number, due } = view.head;
+        let legs = view.uses.legs(heap)?;
         Ok(Circuit { number, due, legs })
     }
 
@@ -56,8 +63,8 @@ impl Circuit {
         ensures gives { Gives circuit_record (circuit_decoded words.now) result }
         ensures least { LeastUnranged }
     {
-        let head = Circuit::head(words)?;
-        Ok(Circuit::of(heap, &head)?)
+        let view = Circuit::view(words)?;
+        Ok(Circuit::of(heap, &view)?)
     }
 
     pub fn encode(&self, heap: Global) -> Result<Vec<u32>, AllocError>

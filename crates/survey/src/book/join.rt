@@ -19,12 +19,12 @@ impl<Q: Quantity + Drop, S: Standard + Drop> Book<Q, S> {
     fn check_circuit(&self, words: &[u32]) -> Result<(), Refusal>
         ensures { result ≡ unless (first (join_refusals (Q.Quantity.meaning self.now.quantity) (S.Standard.meaning self.now.standard) (surveyed self.now) words.now)) tt }
     {
-        let head = Circuit::head(words)?;
-        if self.circuits.contains_key(&head.number.value) {
+        let view = Circuit::view(words)?;
+        if self.circuits.contains_key(&view.head.number.value) {
             return Err(Reason::Taken.at(0));
         }
-        accept_due(&self.quantity, head.due)?;
-        let form = self.chain(&head.uses)?;
+        accept_due(&self.quantity, view.head.due)?;
+        let form = self.chain(&view.uses)?;
         accept_form(&self.standard, form)
     }
 

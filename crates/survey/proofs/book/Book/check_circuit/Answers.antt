@@ -15,14 +15,14 @@ use Rattle.survey.proofs.Outcomes.{was_refused, was_given}
 use Rattle.survey.proofs.Tables.{mapped_isSome}
 use Rattle.survey.proofs.book.Book.check_circuit.Goals as goal
 
-pub returns-in_err-head : goal.returns-in_err-head
-returns-in_err-head g c =
+pub returns-in_err-view : goal.returns-in_err-view
+returns-in_err-view g c =
     let b = c.args.self.now in
     let ws = c.args.words.now in
     let q = g.Q.Quantity.meaning b.quantity in
     let s = g.S.Standard.meaning b.standard in
     let p = err_from_is_err_and c.from_residual.result c.from_residual.ensures.1 in
-    rw (p.1, p.2) (sym (ap (λ o. unless o tt) (words_refused q s (surveyed b) ws _ (was_refused _ (head_of (circuit_read ws)) _ c.in_err-head.ensures.head))))
+    rw (p.1, p.2) (sym (ap (λ o. unless o tt) (words_refused q s (surveyed b) ws _ (was_refused _ (head_of (circuit_read ws)) _ c.in_err-view.ensures.head))))
 
 pub returns-then-contains_key : goal.returns-then-contains_key
 returns-then-contains_key g c =
@@ -30,8 +30,8 @@ returns-then-contains_key g c =
     let ws = c.args.words.now in
     let q = g.Q.Quantity.meaning b.quantity in
     let s = g.S.Standard.meaning b.standard in
-    let n = c.in_ok-head.head.number.value in
-    let read = was_given _ (head_of (circuit_read ws)) _ c.in_ok-head.ensures.head in
+    let n = c.in_ok-view.view.head.number.value in
+    let read = was_given _ (head_of (circuit_read ws)) _ c.in_ok-view.ensures.head in
     let stands = mapped_isSome circuit_record (table b.circuits n) ∙ sym c.contains_key.ensures ∙ c.if-contains_key.true in
     let taken = ap (λ (h : HeadRecord). is_some (standing_circuits b.circuits h.number)) (sym read.1) ∙ stands in
     ap Err c.at.ensures ∙ sym (ap (λ o. unless o tt) (number_taken q s (surveyed b) ws read.0 taken))
@@ -42,8 +42,8 @@ returns-in_err-accept_due g c =
     let ws = c.args.words.now in
     let q = g.Q.Quantity.meaning b.quantity in
     let s = g.S.Standard.meaning b.standard in
-    let n = c.in_ok-head.head.number.value in
-    let read = was_given _ (head_of (circuit_read ws)) _ c.in_ok-head.ensures.head in
+    let n = c.in_ok-view.view.head.number.value in
+    let read = was_given _ (head_of (circuit_read ws)) _ c.in_ok-view.ensures.head in
     let absent = mapped_isSome circuit_record (table b.circuits n) ∙ sym c.contains_key.ensures ∙ c.if-contains_key.false in
     let free = ap (λ (h : HeadRecord). is_some (standing_circuits b.circuits h.number)) (sym read.1) ∙ absent in
     let p = err_from_is_err_and c.from_residual-in_err-accept_due.result c.from_residual-in_err-accept_due.ensures.1 in
@@ -56,15 +56,15 @@ returns-in_err-form g c =
     let ws = c.args.words.now in
     let q = g.Q.Quantity.meaning b.quantity in
     let s = g.S.Standard.meaning b.standard in
-    let n = c.in_ok-head.head.number.value in
-    let read = was_given _ (head_of (circuit_read ws)) _ c.in_ok-head.ensures.head in
+    let n = c.in_ok-view.view.head.number.value in
+    let read = was_given _ (head_of (circuit_read ws)) _ c.in_ok-view.ensures.head in
     let absent = mapped_isSome circuit_record (table b.circuits n) ∙ sym c.contains_key.ensures ∙ c.if-contains_key.false in
     let free = ap (λ (h : HeadRecord). is_some (standing_circuits b.circuits h.number)) (sym read.1) ∙ absent in
     let due = ap (λ (h : HeadRecord). first (due_refusals q h.due)) (sym read.1) ∙ (was_given _ tt _ c.in_ok-accept_due.ensures).0 in
     let p = err_from_is_err_and c.from_residual-in_err-form.result c.from_residual-in_err-form.ensures.1 in
-    let refused = was_refused (first (chain_refusals (surveyed b).legs [] None 2 (map use_read (c.in_ok-head.head.uses.words.now)))) _ _ c.in_err-form.ensures in
+    let refused = was_refused (first (chain_refusals (surveyed b).legs [] None 2 (map use_read (c.in_ok-view.view.uses.words.now)))) _ _ c.in_err-form.ensures in
     rw (p.1, p.2)
-    (sym (ap (λ o. unless o tt) (chain_refused q s (surveyed b) ws read.0 free due _ (ap (λ us. first (chain_refusals (surveyed b).legs [] None 2 (map use_read us))) (sym c.in_ok-head.ensures.uses) ∙ refused))))
+    (sym (ap (λ o. unless o tt) (chain_refused q s (surveyed b) ws read.0 free due _ (ap (λ us. first (chain_refusals (surveyed b).legs [] None 2 (map use_read us))) (sym c.in_ok-view.ensures.uses) ∙ refused))))
 
 pub returns : goal.returns
 returns g c =
@@ -72,12 +72,12 @@ returns g c =
     let ws = c.args.words.now in
     let q = g.Q.Quantity.meaning b.quantity in
     let s = g.S.Standard.meaning b.standard in
-    let n = c.in_ok-head.head.number.value in
-    let read = was_given _ (head_of (circuit_read ws)) _ c.in_ok-head.ensures.head in
+    let n = c.in_ok-view.view.head.number.value in
+    let read = was_given _ (head_of (circuit_read ws)) _ c.in_ok-view.ensures.head in
     let absent = mapped_isSome circuit_record (table b.circuits n) ∙ sym c.contains_key.ensures ∙ c.if-contains_key.false in
     let free = ap (λ (h : HeadRecord). is_some (standing_circuits b.circuits h.number)) (sym read.1) ∙ absent in
     let due = ap (λ (h : HeadRecord). first (due_refusals q h.due)) (sym read.1) ∙ (was_given _ tt _ c.in_ok-accept_due.ensures).0 in
-    let given = was_given (first (chain_refusals (surveyed b).legs [] None 2 (map use_read (c.in_ok-head.head.uses.words.now)))) _ _ c.in_ok-form.ensures in
-    let chain = ap (λ us. first (chain_refusals (surveyed b).legs [] None 2 (map use_read us))) (sym c.in_ok-head.ensures.uses) ∙ given.0 in
-    let shape = given.1 ∙ ap (λ us. form (runs (surveyed b).legs (map use_read us))) c.in_ok-head.ensures.uses in
+    let given = was_given (first (chain_refusals (surveyed b).legs [] None 2 (map use_read (c.in_ok-view.view.uses.words.now)))) _ _ c.in_ok-form.ensures in
+    let chain = ap (λ us. first (chain_refusals (surveyed b).legs [] None 2 (map use_read us))) (sym c.in_ok-view.ensures.uses) ∙ given.0 in
+    let shape = given.1 ∙ ap (λ us. form (runs (surveyed b).legs (map use_read us))) c.in_ok-view.ensures.uses in
     c.accept_form.ensures.value ∙ ap (λ f. unless (first (form_refusals s f)) tt) shape ∙ sym (ap (λ o. unless o tt) (to_form q s (surveyed b) ws read.0 free due chain))

@@ -7,7 +7,7 @@ use Rattle.records.specs.declared.refusal.Reason.TheVariants.{Range}
 use Rattle.records.specs.Circuits.{head_ranged, head_of, circuit_read}
 use Rattle.records.specs.Uses.{use_unranged}
 use Rattle.records.specs.Refusals.{refusal, unless}
-use Rattle.records.proofs.circuit.Circuit.head.Goals as goal
+use Rattle.records.proofs.circuit.Circuit.view.Goals as goal
 use Rattle.records.proofs.Layouts.{laid, passes}
 use Rattle.records.proofs.Circuits.{layout_refused, head_refused, uses_refused, circuit_taken, few_uses, counted, head_read, head_is}
 
@@ -51,7 +51,7 @@ returns-clause-head c =
     let some : head_ranged (get_or ws 0 0) ≡ true = sym (head_read _ _ _ c.head_number.ensures) ∙ ap is_some c.in_ok-number.ensures.ok_part in
     let uses = sym (ap (use_unranged 2) (take_rest ws 2)) ∙ passes Range _ _ c.in_ok-check_uses.ensures in
     let number = head_is c.in_ok-number.number _ _ (sym (ap (option_map (λ n. n.value)) c.in_ok-number.ensures.ok_part) ∙ c.head_number.ensures) in
-    let due = c.of_word.ensures in
+    let due = c.of_word-due.ensures in
     sym (circuit_taken ws (laid _ _ c.in_ok-check.ensures) (head_of (circuit_read ws)) some uses ∙ sym (λ i. Ok (record { number = number i; due = due i })))
 
 pub returns-clause-uses : goal.returns-clause-uses
