@@ -21,7 +21,8 @@ pub fn leg_findings<Q: Quantity, S>(
     ensures { MatchResult result (λ v. v.items ≡ leg_findings (Q.Quantity.meaning book.now.quantity) (surveyed book.now)) (λ e. e ≡ Memory) }
 {
     let show = |leg: &Leg| LegFinding::of(&book.quantity, leg);
-    Ok(book.legs.values().map(show).collect(heap)?)
+    let findings = book.legs.values().map(show).collect(heap)?;
+    Ok(findings)
 }
 
 pub fn circuit_findings<Q: Quantity, S>(
@@ -31,5 +32,6 @@ pub fn circuit_findings<Q: Quantity, S>(
     ensures { MatchResult result (λ v. v.items ≡ circuit_findings (Q.Quantity.meaning book.now.quantity) (surveyed book.now)) (λ e. e ≡ Memory) }
 {
     let show = |circuit: &Circuit| finding_of(book, circuit);
-    Ok(book.circuits.values().map(show).collect(heap)?)
+    let findings = book.circuits.values().map(show).collect(heap)?;
+    Ok(findings)
 }

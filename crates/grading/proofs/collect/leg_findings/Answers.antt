@@ -13,4 +13,4 @@ returns g c =
     let b = c.args.book.now in
     let q = g.Q.Quantity.meaning b.quantity in
     let road = YieldsList-from_map _ (λ l. leg_finding q (leg_record l)) (YieldsList-from_rest (values b.legs) (c.map.ensures.source ∙ c.values.ensures.rest)) c.map.ensures.closure (λ x r f k. search rules) in
-    (fact_from_collect {E = Unit {0}} (λ xs v. (v.items ≡ xs) × (vec_len v ≡ length xs)) (Ok c.in_ok-collect.field-0) c.in_ok-collect.ensures.ran road).0 ∙ sym (legs_found q b)
+    (fact_from_collect {E = Unit {0}} (λ xs v. (v.items ≡ xs) × (vec_len v ≡ length xs)) (Ok c.in_ok-findings.findings) c.in_ok-findings.ensures.ran road).0 ∙ sym (legs_found q b)
