@@ -27,11 +27,10 @@ impl<const GREATEST: u64> Residue<GREATEST> {
     pub(crate) fn of_whole(number: i64) -> Self
         ensures { result.residue ≡ least_residue (GREATEST + 1) number }
     {
-        let element = Self::of_size(number.unsigned_abs());
         if number < 0 {
-            return element.opposite();
+            return Self::of_size(number.unsigned_abs()).opposite();
         }
-        element
+        Self::of_size(number.unsigned_abs())
     }
 
     pub(crate) fn zero() -> Self
