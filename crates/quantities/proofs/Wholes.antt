@@ -1,5 +1,5 @@
 -- Whole numbers and their least residues: sums, opposites, and the way back.
-use Rattle.std.proofs.Common.{◌≡◌, ℕ, zero, suc, ◌+◌, ◌-◌, ◌*◌, ◌/◌, ◌%◌, ◌<◌, ◌≤◌, leb, ◌⊎◌, ℤ, pos, negsuc, ◌+ℤ◌, ◌-ℤ◌, neg_ℤ, nat_abs, sym, refl, ap, ◌∙◌, inl, inr, mod-lt, mod-eq_of_lt, add-mul, div-add-mod', zero-add, arith}
+use Rattle.std.proofs.Common.{◌≡◌, ℕ, zero, suc, ◌+◌, ◌-◌, ◌*◌, ◌/◌, ◌%◌, ◌^◌, ◌<◌, ◌≤◌, leb, ◌⊎◌, ℤ, pos, negsuc, ◌+ℤ◌, ◌-ℤ◌, neg_ℤ, nat_abs, sym, refl, ap, ◌∙◌, inl, inr, mod-lt, mod-eq_of_lt, add-mul, div-add-mod', zero-add, arith, lit<, w64, SFits, of_z}
 use native.Mathlib.Nat.{add-mod, add-mul-mod_self_right, zero-mod, sub-zero, mod_self}
 use borrow.Author.Differences.{up, down, sum_is_lem, ints}
 use Rattle.std.proofs.lemmas.Bool.{cases_lt, cond-true, cond-false, le-leb, lt-leb}
@@ -116,3 +116,8 @@ module _ (m : ℕ) (positive : 0 < m) where
         | inl h ↦ rw h.1 (omega (arith, ints, h.0), omega (arith, ints, h.0))
         | inr h ↦ rw h.1 (omega (arith, ints, h.0), omega (arith, ints, h.0))
       ]
+
+-- the bits of a signed number of 64 bits, read as an unsigned one
+pub bits_least : (z : ℤ) → SFits w64 z → of_z w64 z ≡ least_residue (2 ^ 64) z
+bits_least (pos n) fits = sym (mod-eq_of_lt (omega (arith, fits.sfits)))
+bits_least (negsuc n) fits = sym (opposite_of (2 ^ 64) (lit< tt) (suc n) (omega arith) (omega (arith, fits.sfits)))

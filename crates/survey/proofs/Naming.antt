@@ -6,7 +6,7 @@ use Rattle.records.specs.Words.{bits, payload}
 use Rattle.plainbook.specs.Surveys.{names}
 
 -- a leg's number is the low byte of its word
-low_byte : (w : ℕ) → bits 0 8 (payload w) ≡ w % 256
+pub low_byte : (w : ℕ) → bits 0 8 (payload w) ≡ w % 256
 low_byte w = omega arith
 
 pub named_by_byte : (leg : ℕ) (ws : List ℕ) → names leg (map use_read ws) ≡ list_any (λ w. eqb (w % 256) leg) ws
