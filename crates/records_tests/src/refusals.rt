@@ -26,9 +26,18 @@ fn numbers_and_parts(rt: HostRuntime) {
     let rows = [
         (Reason::Layout, 1u8, Part::Words),
         (Reason::Range, 2, Part::Words),
+        (Reason::Taken, 3, Part::Book),
+        (Reason::Absent, 4, Part::Book),
+        (Reason::InUse, 5, Part::Book),
         (Reason::Measure, 6, Part::Quantity),
         (Reason::Observation, 7, Part::Standard),
+        (Reason::Twice, 8, Part::Book),
+        (Reason::Broken, 9, Part::Book),
         (Reason::Form, 10, Part::Standard),
+        (Reason::NoLeg, 11, Part::Book),
+        (Reason::Loose, 12, Part::Book),
+        (Reason::NoClass, 13, Part::Book),
+        (Reason::TooFew, 14, Part::Book),
     ];
     for (reason, number, part) in rows {
         let refusal = Refusal { reason, place: 4 };
